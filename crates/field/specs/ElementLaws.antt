@@ -1,0 +1,158 @@
+-- The laws of elements: a group of order q, with scalars as exponents, in which the generator's powers differ. Assumes nothing.
+use mathlib.Core.Path.{_≡_, refl, sym, ap, ap₂, _∙_}
+use mathlib.Core.Logic.{_≢_}
+use mathlib.Core.Bool.{Bool, true, false, _&&_}
+use Prim.Native.Nat.{ℕ, zero, suc, _+_, _*_, _-_, _^_, _%_, _≤_, _<_}
+use native.Mathlib.Omega.{arith}
+use native.Mathlib.Nat.{mod-lt, mod-eq-of-lt, mul-comm, pos-of-ne-zero}
+use lib.Dec.{lit<, ltb, eqb}
+use lib.Pow as N
+use borrow.Author.Tests.{lt-ltb, ltb-true, eq-eqb, eqb-true}
+use Rattle.field.specs.declared.Scalar.{Scalar}
+use Rattle.field.specs.declared.Element.{Element}
+use Rattle.field.specs.Definitions.{q, P, scalar, element, generator, powerTo, powerOf, IsScalar, IsElement, isElement, reduced, plus, times, product, raise}
+use Rattle.field.specs.Congruence.{mul-mod, strip, same}
+use Rattle.field.specs.Powers as W
+use Rattle.field.specs.Order as O
+use Rattle.field.specs.ScalarLaws.{1<q, range, inverses}
+
+pub 1<P : 1 < P
+unfolding P
+1<P = lit< tt
+
+pub 0<P : 0 < P
+0<P = omega (arith, 1<P)
+
+-- ---- powers modulo P, of any number
+
+power-add : (v a b : ℕ) → powerOf P v (a + b) ≡ powerOf P v a * powerOf P v b % P
+power-add v a b = simp W.power-is (ap (λ (x : ℕ). x % P) (N.pow-add v a b) ∙ mul-mod (v ^ a) (v ^ b) P)
+
+power-mul : (v a b : ℕ) → powerOf P v (a * b) ≡ powerOf P (powerOf P v a) b
+power-mul v a b = simp W.power-is (ap (λ (x : ℕ). x % P) (W.pow-mul v a b) ∙ sym (W.pow-mod (v ^ a) b P))
+
+mul-power : (v w a : ℕ) → powerOf P (v * w % P) a ≡ powerOf P v a * powerOf P w a % P
+mul-power v w a = simp W.power-is (W.pow-mod (v * w) a P ∙ ap (λ (x : ℕ). x % P) (W.mul-pow v w a) ∙ mul-mod (v ^ a) (w ^ a) P)
+
+power-lt : (v a : ℕ) → powerOf P v a < P
+power-lt v a = rw W.power-is (mod-lt (v ^ a) 0<P)
+
+one-power : (a : ℕ) → powerOf P 1 a ≡ 1
+one-power a = W.power-is P 1 a ∙ ap (λ (x : ℕ). x % P) (W.one-pow a) ∙ mod-eq-of-lt 1<P
+
+-- ---- elements
+
+-- what makes an element: its range and its order
+both : (a b : Bool) → (a && b) ≡ true → (a ≡ true) × (b ≡ true)
+both true b e = (refl, e)
+both false b e = absurd (mathlib.Core.Bool.false≢true e)
+
+pub below : (v : Element) → IsElement v → v .0 < P
+unfolding isElement
+below v h = ltb-true (v .0) P (both (ltb (v .0) P) _ (both (ltb 0 (v .0)) _ h .1) .0)
+
+order : (v : Element) → IsElement v → powerOf P (v .0) q ≡ 1
+unfolding isElement
+order v h = eqb-true (powerOf P (v .0) q) 1 (both (ltb (v .0) P) _ (both (ltb 0 (v .0)) _ h .1) .1)
+
+zero-power : powerOf P 0 q ≡ 0
+unfolding powerOf powerTo P q
+zero-power = refl
+
+is-element : (v : ℕ) → v < P → powerOf P v q ≡ 1 → isElement v ≡ true
+unfolding isElement
+is-element v l e = rw (lt-ltb 0 v positive, lt-ltb v P l, eq-eqb (powerOf P v q) 1 e)
+  where
+    positive : 0 < v
+    positive = pos-of-ne-zero (λ (z : v ≡ 0). omega (arith, sym zero-power ∙ ap (λ (x : ℕ). powerOf P x q) (sym z) ∙ e))
+
+pub one-element : IsElement (element 1)
+one-element = is-element 1 1<P (one-power q)
+
+pub generator-element : IsElement generator
+unfolding powerOf powerTo P q
+generator-element = is-element 4 (lit< tt) refl
+
+pub product-element : (v w : Element) → IsElement v → IsElement w → IsElement (product v w)
+unfolding product
+product-element v w h k =
+    is-element _ (mod-lt _ 0<P) (mul-power (v .0) (w .0) q ∙ ap₂ (λ (x y : ℕ). x * y % P) (order v h) (order w k) ∙ mod-eq-of-lt 1<P)
+
+pub raise-element : (v : Element) (x : Scalar) → IsElement v → IsElement (raise v x)
+unfolding raise
+raise-element v x h =
+    is-element _ (power-lt (v .0) (x .0))
+    (sym (power-mul (v .0) (x .0) q) ∙ ap (powerOf P (v .0)) (mul-comm (x .0) q) ∙ power-mul (v .0) q (x .0)
+    ∙ ap (λ (z : ℕ). powerOf P z (x .0)) (order v h) ∙ one-power (x .0))
+
+-- ---- products and powers of any numbers
+
+pub product-below : (v w : Element) → product v w .0 < P
+unfolding product
+product-below v w = mod-lt _ 0<P
+
+pub raise-below : (v : Element) (x : Scalar) → raise v x .0 < P
+unfolding raise
+raise-below v x = power-lt (v .0) (x .0)
+
+pub product-assoc : (u v w : Element) → product (product u v) w ≡ product u (product v w)
+unfolding product
+product-assoc u v w = ap element (simp strip (same P (omega arith)))
+
+pub product-comm : (v w : Element) → product v w ≡ product w v
+unfolding product
+product-comm v w = ap element (same P (omega arith))
+
+pub product-one : (v : Element) → v .0 < P → product v (element 1) ≡ v
+unfolding product
+product-one v l = ap element (same P (omega arith) ∙ mod-eq-of-lt l)
+
+pub product-raise : (v w : Element) (x : Scalar) → raise (product v w) x ≡ product (raise v x) (raise w x)
+unfolding product raise
+product-raise v w x = ap element (mul-power (v .0) (w .0) (x .0))
+
+pub one-raise : (x : Scalar) → raise (element 1) x ≡ element 1
+unfolding raise
+one-raise x = ap element (one-power (x .0))
+
+pub raise-zero : (v : Element) → raise v (scalar 0) ≡ element 1
+unfolding raise
+raise-zero v = ap element (W.power-is P (v .0) 0 ∙ ap (λ (x : ℕ). x % P) (native.Mathlib.Nat.pow-zero (v .0)) ∙ mod-eq-of-lt 1<P)
+
+pub raise-one : (v : Element) → v .0 < P → raise v (scalar 1) ≡ v
+unfolding raise
+raise-one v l = ap element (W.power-is P (v .0) 1 ∙ ap (λ (x : ℕ). x % P) (W.pow-one (v .0)) ∙ mod-eq-of-lt l)
+
+-- two powers in either order
+pub raise-raise : (v : Element) (x y : Scalar) → raise (raise v x) y ≡ raise (raise v y) x
+unfolding raise
+raise-raise v x y = ap element (sym (power-mul (v .0) (x .0) (y .0)) ∙ ap (powerOf P (v .0)) (mul-comm (x .0) (y .0)) ∙ power-mul (v .0) (y .0) (x .0))
+
+-- ---- exponents of elements count modulo q
+
+module _ (v : Element) (h : IsElement v) where
+  exponent-mod : (a : ℕ) → powerOf P (v .0) (a % q) ≡ powerOf P (v .0) a
+  exponent-mod a = simp W.power-is (O.period P q (v .0) (sym (W.power-is P (v .0) q) ∙ order v h) a)
+
+  pub raise-reduced : (x : Scalar) → raise v (reduced (x .0)) ≡ raise v x
+  unfolding raise reduced
+  raise-reduced x = ap element (exponent-mod (x .0))
+
+  pub raise-plus : (x y : Scalar) → raise v (plus x y) ≡ product (raise v x) (raise v y)
+  unfolding raise plus product
+  raise-plus x y = ap element (exponent-mod (x .0 + y .0) ∙ power-add (v .0) (x .0) (y .0))
+
+  pub raise-times : (x y : Scalar) → raise v (times x y) ≡ raise (raise v x) y
+  unfolding raise times
+  raise-times x y = ap element (exponent-mod (x .0 * y .0) ∙ power-mul (v .0) (x .0) (y .0))
+
+-- the generator's powers differ: a number below q is known by its power of 4
+pub generator-unique : (x y : Scalar) → IsScalar x → IsScalar y → raise generator x ≡ raise generator y → x ≡ y
+unfolding raise
+generator-unique x y h k e =
+    ap scalar
+    (O.unique P q 4 (sym (W.power-is P 4 q) ∙ order generator generator-element) inverses four (x .0) (y .0) (range (x .0) h) (range (y .0) k)
+    (sym (W.power-is P 4 (x .0)) ∙ ap (λ (z : Element). z .0) e ∙ W.power-is P 4 (y .0)))
+  where
+    four : 4 % P ≢ 1
+    four e = omega (arith, sym (mod-eq-of-lt (below generator generator-element)) ∙ e)

@@ -1,0 +1,131 @@
+// Scalars modulo q and group elements modulo P, two kinds of number that are never taken for one another.
+ghost use mathlib.Core.Path.{_≡_};
+ghost use Prim.Native.Nat.{_<_};
+ghost use Rattle.field.specs.Definitions.{powerOf, reduced, plus, minus, times, inverse, power, isScalar, product, raise, isElement};
+
+// A number from 0 to q - 1, counted modulo q.
+pub struct Scalar(pub u32);
+
+// A number V from 1 to P - 1 with V^q = 1 modulo P.
+pub struct Element(pub u32);
+
+// base^exponent modulo the modulus, by square and multiply.
+fn power_of(modulus: u32, base: u32, exponent: u32) -> u32
+    requires { ⌜ 1 < modulus ⌝ }
+    ensures { λ r. ⌜ r ≡ powerOf modulus base exponent ⌝ }
+{
+    let m = modulus as u64;
+    let mut product: u64 = 1;
+    let mut square = base as u64 % m;
+    let mut left = exponent;
+    while 0 < left {
+        if left % 2 == 1 {
+            product = product * square % m;
+        }
+        square = square * square % m;
+        left = left / 2;
+    }
+    (product % m) as u32
+}
+
+impl Scalar {
+    // q, a prime
+    pub const MODULUS: u32 = 500000003;
+
+    pub const ZERO: Scalar = Scalar(0);
+
+    pub const ONE: Scalar = Scalar(1);
+
+    // The scalar that a number comes to modulo q.
+    pub fn new(x: u32) -> Scalar
+        ensures { λ r. ⌜ r ≡ reduced x ⌝ }
+    {
+        Scalar(x % Scalar::MODULUS)
+    }
+
+    // Whether a number is a scalar as it stands.
+    pub fn accepts(x: u32) -> bool
+        ensures { λ r. ⌜ r ≡ isScalar x ⌝ }
+    {
+        x < Scalar::MODULUS
+    }
+
+    pub fn add(self, other: Scalar) -> Scalar
+        ensures { λ r. ⌜ r ≡ plus self other ⌝ }
+    {
+        let sum = self.0 as u64 + other.0 as u64;
+        Scalar((sum % 500000003) as u32)
+    }
+
+    pub fn sub(self, other: Scalar) -> Scalar
+        ensures { λ r. ⌜ r ≡ minus self other ⌝ }
+    {
+        let lack = Scalar::MODULUS - other.0 % Scalar::MODULUS;
+        let total = self.0 as u64 + lack as u64;
+        Scalar((total % 500000003) as u32)
+    }
+
+    pub fn mul(self, other: Scalar) -> Scalar
+        ensures { λ r. ⌜ r ≡ times self other ⌝ }
+    {
+        let whole = self.0 as u64 * other.0 as u64;
+        Scalar((whole % 500000003) as u32)
+    }
+
+    // The scalar whose product with this one is 1, and 0 for 0. With q = c x + r, the inverse of x is -c times that of r.
+    pub fn inverse(self) -> Scalar
+        ensures { λ r. ⌜ r ≡ inverse self ⌝ }
+    {
+        let mut factor = Scalar::ONE;
+        let mut left = self.0 % Scalar::MODULUS;
+        while 1 < left {
+            let minus_quotient = Scalar(Scalar::MODULUS - Scalar::MODULUS / left);
+            factor = factor.mul(minus_quotient);
+            left = Scalar::MODULUS % left;
+        }
+        factor.mul(Scalar(left))
+    }
+
+    // This scalar to the power of a whole number.
+    pub fn power(self, exponent: u32) -> Scalar
+        ensures { λ r. ⌜ r ≡ power self exponent ⌝ }
+    {
+        Scalar(power_of(Scalar::MODULUS, self.0, exponent))
+    }
+}
+
+impl Element {
+    // P = 2 q + 1
+    pub const MODULUS: u32 = 1000000007;
+
+    pub const ONE: Element = Element(1);
+
+    pub const GENERATOR: Element = Element(4);
+
+    // Whether a number is an element as it stands: by its order, and not by range alone.
+    pub fn accepts(x: u32) -> bool
+        ensures { λ r. ⌜ r ≡ isElement x ⌝ }
+    {
+        if x == 0 {
+            return false;
+        }
+        if Element::MODULUS <= x {
+            return false;
+        }
+        power_of(Element::MODULUS, x, Scalar::MODULUS) == 1
+    }
+
+    pub fn mul(self, other: Element) -> Element
+        ensures { λ r. ⌜ r ≡ product self other ⌝ }
+    {
+        let full = self.0 as u64 * other.0 as u64;
+        Element((full % 1000000007) as u32)
+    }
+
+    // This element to the power of a scalar.
+    pub fn pow(self, exponent: Scalar) -> Element
+        ensures { λ r. ⌜ r ≡ raise self exponent ⌝ }
+    {
+        Element(power_of(Element::MODULUS, self.0, exponent.0))
+    }
+}
