@@ -5,4 +5,3 @@ pub mod Trial
 pub mod Order
 pub mod ScalarLaws
 pub mod ElementLaws
-pub mod Cases

@@ -116,6 +116,49 @@ pub times-reduced : (x y : Scalar) → times (reduced (x .0)) (reduced (y .0)) �
 unfolding times reduced
 times-reduced x y = ap scalar (simp strip)
 
+pub plus-reduced-left : (x y : Scalar) → plus (reduced (x .0)) y ≡ plus x y
+unfolding plus reduced
+plus-reduced-left x y = ap scalar (simp strip)
+
+pub times-reduced-left : (x y : Scalar) → times (reduced (x .0)) y ≡ times x y
+unfolding times reduced
+times-reduced-left x y = ap scalar (simp strip)
+
+-- ---- differences of whole numbers
+
+-- x - y and x′ - y′ are one where x + y′ = x′ + y
+pub difference-same : (x y x′ y′ : ℕ) → x + y′ ≡ x′ + y → minus (reduced x) (reduced y) ≡ minus (reduced x′) (reduced y′)
+unfolding minus reduced
+difference-same x y x′ y′ e =
+    ap scalar
+    (simp strip
+    (congruent q (x + (q - y % q)) (x′ + (q - y′ % q)) (y′ / q) (y / q)
+    (omega (arith, e, div-add-mod y q, div-add-mod y′ q, mod-lt y 0<q, mod-lt y′ 0<q))))
+
+stripped : (x y : ℕ) → (x % q + (q - y % q % q)) % q ≡ (x + (q - y % q)) % q
+stripped x y = simp strip
+
+-- and, of numbers that are small, only there
+pub difference-unique : (x y x′ y′ : ℕ) → x + y′ < q → x′ + y < q → minus (reduced x) (reduced y) ≡ minus (reduced x′) (reduced y′) → x + y′ ≡ x′ + y
+unfolding minus reduced
+difference-unique x y x′ y′ l k e =
+    sym (mod-eq-of-lt l) ∙ congruent q (x + y′) (x′ + y) ((x′ + (q - y′)) / q) ((x + (q - y)) / q) (omega (arith, whole q (x + (q - y)) (x′ + (q - y′)) plain)) ∙ mod-eq-of-lt k
+  where
+    y-same : y % q ≡ y
+    y-same = mod-eq-of-lt (omega arith)
+
+    y′-same : y′ % q ≡ y′
+    y′-same = mod-eq-of-lt (omega arith)
+
+    plain : (x + (q - y)) % q ≡ (x′ + (q - y′)) % q
+    plain =
+        ap (λ (z : ℕ). (x + (q - z)) % q) (sym y-same) ∙ sym (stripped x y) ∙ ap (λ (z : Scalar). z .0) e ∙ stripped x′ y′
+        ∙ ap (λ (z : ℕ). (x′ + (q - z)) % q) y′-same
+
+pub power-range : (x : Scalar) (e : ℕ) → IsScalar (power x e)
+unfolding power
+power-range x e = in-range (rw W.power-is (mod-lt _ 0<q))
+
 -- x to the power e, as a whole number
 pub power-whole : (x : Scalar) (e : ℕ) → power x e ≡ reduced (x .0 ^ e)
 unfolding power reduced

@@ -1,0 +1,114 @@
+-- The worked log of document 01 and its cases A to L, one list with the expected answers, and one fact over it. Assumes nothing.
+use Prim.Native.Nat.{ℕ, _+_, _/_, _%_}
+use mathlib.Core.Path.{_≡_, refl}
+use mathlib.Core.Bool.{Bool}
+use mathlib.Core.List.{List, [], _∷_, _++_, map}
+use Rattle.algebra.specs.Fold.{fold}
+use Rattle.lists.specs.Tests.{pick, allTo, require}
+use Rattle.lists.specs.Stores.{stored, filled}
+use Rattle.sets.specs.Masks.{bit, has, insert, minus, maskOf, membersFrom, members}
+use Rattle.field.specs.Definitions.{q, P, scalar, powerTo, powerOf, isScalar, isElement, reduced, plus, times, inverseTo, inverseOf, inverse, power, product, raise}
+use Rattle.field.specs.Definitions as F
+use Rattle.interpolation.specs.Definitions.{point, slot, factor, weight, scalarAt, elementAt}
+use Rattle.records.specs.Parameters.{inBounds, quorum, batch}
+use Rattle.records.specs.Bytes.{byteAt, numberAt, word}
+use Rattle.records.specs.Tags.{tagOf, setupLength, dealingLength, complaintLength, challengesLength, responseLength}
+use Rattle.records.specs.Refusals.{setupRefusal, sharesFrom, dealingRefusal, maskFits, complaintRefusal, challengesRefusal, responseRefusal}
+use Rattle.run.specs.declared.Run.{Run}
+use Rattle.protocol.specs.Transcript.{dealingAt, validShare, coefficient, keyAt, combinedAt, nonce, challengeAt, responseAt, passes}
+use Rattle.run.specs.Runs.{noSetup, noDealings, noComplaints, noResponses, noScalars, begun, fresh, wellFormed, stageOf, base, cell, transcriptOf, setsOf, phiOf, kept}
+use Rattle.run.specs.Steps.{orNext, setupOf, afterSetup, dealingNumber, wrongShares, withDealing, afterDealing, mayBlame, complaintNumber, withComplaint, complaintStage, afterComplaint, challengesNumber, afterChallenges, responseNumber, withResponse, withRow, finished, afterResponse, taken, stepAt, stepOf, afterFrom, after}
+
+-- ---- records
+
+four : ℕ → List ℕ
+four x = x / 16777216 ∷ x / 65536 % 256 ∷ x / 256 % 256 ∷ x % 256 ∷ []
+
+fours : List ℕ → List ℕ
+fours [] = []
+fours (x ∷ l) = four x ++ fours l
+
+setup : ℕ → ℕ → ℕ → List ℕ → List ℕ
+setup n t a l = 83 ∷ 85 ∷ n ∷ t ∷ a ∷ 0 ∷ fours l
+
+dealing : ℕ → List ℕ → List ℕ
+dealing i l = 68 ∷ 69 ∷ i ∷ 0 ∷ fours l
+
+complaint : ℕ → ℕ → List ℕ
+complaint j m = 86 ∷ 69 ∷ j ∷ 0 ∷ four m
+
+challenges : List ℕ → List ℕ
+challenges l = 67 ∷ 72 ∷ 0 ∷ 0 ∷ fours l
+
+response : ℕ → List ℕ → List ℕ
+response j l = 82 ∷ 69 ∷ j ∷ 0 ∷ fours l
+
+-- ---- logs
+
+su : List ℕ
+su = setup 4 1 1 (4 ∷ 16 ∷ [])
+
+-- up to the dealings, with x and y for the shares for 2 of dealers 2 and 3
+dealt : ℕ → ℕ → List (List ℕ)
+dealt x y =
+    su ∷ dealing 1 (1 ∷ 4 ∷ 1 ∷ 2 ∷ 3 ∷ 4 ∷ []) ∷ dealing 2 (4 ∷ 4 ∷ 1 ∷ x ∷ 1 ∷ 1 ∷ []) ∷ dealing 3 (16 ∷ 64 ∷ 3 ∷ y ∷ 5 ∷ 6 ∷ []) ∷ []
+
+-- up to the complaint rows, with mask m from holder 2
+held : ℕ → ℕ → ℕ → List (List ℕ)
+held x y m = dealt x y ++ (complaint 2 m ∷ complaint 3 0 ∷ complaint 4 0 ∷ [])
+
+challenged : ℕ → ℕ → ℕ → List (List ℕ)
+challenged x y m = held x y m ++ (challenges (1 ∷ 2 ∷ []) ∷ [])
+
+-- ---- what is said of them
+
+-- HOLD, QUAL, BAD; R and φ of (1,1) and (2,1); the stage
+said : Run → List (List ℕ)
+said r =
+    members 4 (has (setsOf r .hold)) ∷ members 4 (has (setsOf r .qual)) ∷ members 4 (has (setsOf r .bad))
+    ∷ (nonce (transcriptOf r) 1 1 .0 ∷ kept r 1 1 .0 ∷ []) ∷ (nonce (transcriptOf r) 2 1 .0 ∷ kept r 2 1 .0 ∷ []) ∷ (r .stage ∷ []) ∷ []
+
+-- the answer to a record after a list
+answer : List (List ℕ) → List ℕ → List ℕ
+answer l s = stepOf (after l) s .number ∷ []
+
+test : Bool → List ℕ
+test b = pick b (1 ∷ []) (0 ∷ [])
+
+keys : ℕ → List ℕ
+keys n = 4 ∷ filled n 16
+
+-- ---- the cases: what is computed, and what document 01 says
+
+cases : List (List (List ℕ) × List (List ℕ))
+cases =
+    -- (A) the worked page
+    (said (after (challenged 1 4 0 ++ (response 2 (10 ∷ 22 ∷ []) ∷ response 3 (13 ∷ 28 ∷ []) ∷ []))),
+    (2 ∷ 3 ∷ 4 ∷ []) ∷ (1 ∷ 2 ∷ 3 ∷ []) ∷ [] ∷ (64 ∷ 4 ∷ []) ∷ (65536 ∷ 10 ∷ []) ∷ (5 ∷ []) ∷ [])
+    -- (B) right after CH, RE 1 with 0,0 refused 14; (C) RE 2 with 11,22 refused 15
+    ∷ (answer (challenged 1 4 0) (response 1 (0 ∷ 0 ∷ [])) ∷ answer (challenged 1 4 0) (response 2 (11 ∷ 22 ∷ [])) ∷ [],
+    (14 ∷ []) ∷ (15 ∷ []) ∷ [])
+    -- (D) the share of dealer 3 for 2 sent as 5, mask 4 from holder 2
+    ∷ (said (after (challenged 1 5 4 ++ (response 2 (6 ∷ 10 ∷ []) ∷ response 3 (8 ∷ 13 ∷ []) ∷ []))),
+    (2 ∷ 3 ∷ 4 ∷ []) ∷ (1 ∷ 2 ∷ []) ∷ (3 ∷ []) ∷ (4 ∷ 2 ∷ []) ∷ (16 ∷ 4 ∷ []) ∷ (5 ∷ []) ∷ [])
+    -- (E) mask 4 from holder 2 in the first log refused 13
+    ∷ (answer (dealt 1 4) (complaint 2 4) ∷ [], (13 ∷ []) ∷ [])
+    -- (F) 4,1,1 and 32,1,15 accepted, (G) 3,1,1 and 32,1,16 refused 4
+    ∷ (answer [] su ∷ answer [] (setup 32 1 15 (4 ∷ 16 ∷ [])) ∷ answer [] (setup 3 1 1 (4 ∷ 16 ∷ [])) ∷ answer [] (setup 32 1 16 (4 ∷ 16 ∷ [])) ∷ [],
+    (0 ∷ []) ∷ (0 ∷ []) ∷ (4 ∷ []) ∷ (4 ∷ []) ∷ [])
+    -- (H) scalar 500,000,002 taken, 500,000,003 refused 6
+    ∷ (answer (su ∷ []) (dealing 1 (1 ∷ 4 ∷ 500000002 ∷ 2 ∷ 3 ∷ 4 ∷ [])) ∷ answer (su ∷ []) (dealing 1 (1 ∷ 4 ∷ 500000003 ∷ 2 ∷ 3 ∷ 4 ∷ [])) ∷ [],
+    (0 ∷ []) ∷ (6 ∷ []) ∷ [])
+    -- (I) 4 an element, 1,000,000,006 not; (J) the inverse of 2; (K) the weights of points 2, 3 at 0
+    ∷ (test (isElement 4) ∷ test (isElement 1000000006) ∷ (inverse (scalar 2) .0 ∷ [])
+    ∷ (weight (λ i. scalar (i + 2)) 2 0 (scalar 0) .0 ∷ weight (λ i. scalar (i + 2)) 2 1 (scalar 0) .0 ∷ []) ∷ [],
+    (1 ∷ []) ∷ (0 ∷ []) ∷ (250000002 ∷ []) ∷ (3 ∷ 500000001 ∷ []) ∷ [])
+    -- (L) the shares for 2 sent as 2 by dealer 2 and as 5 by dealer 3, mask 6 from holder 2
+    ∷ (said (after (held 2 5 6)),
+    (2 ∷ 3 ∷ 4 ∷ []) ∷ (1 ∷ []) ∷ (2 ∷ 3 ∷ []) ∷ (1 ∷ 0 ∷ []) ∷ (1 ∷ 0 ∷ []) ∷ (6 ∷ []) ∷ [])
+    ∷ []
+
+-- every case comes out as document 01 says
+computed : map (λ c. c .0) cases ≡ map (λ c. c .1) cases
+unfolding four fours setup dealing complaint challenges response su dealt held challenged said answer test cases fold allTo require stored filled bit has insert minus maskOf membersFrom q P powerTo powerOf isScalar isElement reduced plus F.minus times inverseTo inverseOf inverse power product raise point factor weight scalarAt elementAt inBounds quorum batch byteAt numberAt word tagOf setupLength dealingLength complaintLength challengesLength responseLength setupRefusal sharesFrom dealingRefusal maskFits complaintRefusal challengesRefusal responseRefusal dealingAt validShare coefficient keyAt combinedAt nonce challengeAt responseAt passes noSetup noDealings noComplaints noResponses noScalars begun fresh wellFormed stageOf base cell transcriptOf setsOf phiOf kept orNext setupOf afterSetup dealingNumber wrongShares withDealing afterDealing mayBlame complaintNumber withComplaint complaintStage afterComplaint challengesNumber afterChallenges responseNumber withResponse withRow finished afterResponse taken stepAt stepOf afterFrom after
+computed = refl

@@ -1,0 +1,97 @@
+-- Lists of at most 64 scalars with their count, as the code passes them, and what their weights and values come to.
+use mathlib.Core.Path.{_≡_, ap, ap₂, _∙_}
+use mathlib.Core.List.{List}
+use Prim.Native.Nat.{ℕ, _≤_, _<_, min}
+use native.Mathlib.Omega.{arith}
+use lib.ListN.{getD}
+use Rattle.algebra.specs.Fold.{fold, fold-cong}
+use Rattle.lists.specs.Stores.{stored, filled, length-filled, stored-from, stored-cong}
+use Rattle.field.specs.declared.Scalar.{Scalar}
+use Rattle.field.specs.declared.Element.{Element}
+use Rattle.field.specs.Definitions.{scalar, element, plus, times, product, raise}
+use Rattle.interpolation.specs.declared.Row.{Row}
+use Rattle.interpolation.specs.Definitions.{factor, weight, scalarAt, elementAt}
+
+-- how many scalars a row has
+abbrev pub size : Row → ℕ
+size r = min (r .count) 64
+
+-- scalar i of a row
+unfoldable pub nth : Row → ℕ → Scalar
+nth r i = getD (r .at) i (scalar 0)
+
+-- the row of f 0, .., f (m - 1), at most 64 of them
+unfoldable pub listed : ℕ → (ℕ → Scalar) → Row
+listed m f = record { at = stored (filled 64 (scalar 0)) 0 (min m 64) f; count = min m 64 }
+
+-- the weights at x of a row of points
+unfoldable pub weightsOf : Row → Scalar → Row
+weightsOf r x = listed (size r) (λ i. weight (nth r) (size r) i x)
+
+-- with a row of weights: the sum of weight × value, and the product of value^weight
+unfoldable pub sumOf : Row → List Scalar → Scalar
+sumOf w values = fold plus (scalar 0) (size w) (λ i. times (nth w i) (getD values i (scalar 0)))
+
+unfoldable pub productOf : Row → List Element → Element
+productOf w values = fold product (element 1) (size w) (λ i. raise (getD values i (element 0)) (nth w i))
+
+-- ---- for callers
+
+-- a listed row has what was listed
+pub nth-listed : (m : ℕ) (f : ℕ → Scalar) (i : ℕ) → i < m → m ≤ 64 → nth (listed m f) i ≡ f i
+unfolding nth listed
+nth-listed m f i l h =
+    stored-from (filled 64 (scalar 0)) (min m 64) f (scalar 0) (omega (arith, length-filled 64 (scalar 0))) i (omega arith)
+
+pub size-listed : (m : ℕ) (f : ℕ → Scalar) → m ≤ 64 → size (listed m f) ≡ m
+unfolding listed
+size-listed m f h = omega arith
+
+pub listed-cong : (m : ℕ) (f g : ℕ → Scalar) → ((i : ℕ) → i < m → f i ≡ g i) → listed m f ≡ listed m g
+unfolding listed
+listed-cong m f g e =
+    ap (λ (l : List Scalar). record { at = l; count = min m 64 }) (stored-cong (filled 64 (scalar 0)) 0 (min m 64) f g (λ i l. e i (omega arith)))
+
+-- weights and interpolation go by the points and values below m alone
+pub weight-cong : (pt pt′ : ℕ → Scalar) (m i : ℕ) (x : Scalar) → i < m → ((l : ℕ) → l < m → pt l ≡ pt′ l) → weight pt m i x ≡ weight pt′ m i x
+unfolding weight factor
+weight-cong pt pt′ m i x h e = fold-cong times (scalar 1) m (λ l c. rw (e l c, e i h))
+
+pub scalarAt-cong : (pt pt′ : ℕ → Scalar) (m : ℕ) (f g : ℕ → Scalar) (x : Scalar)
+    → ((l : ℕ) → l < m → pt l ≡ pt′ l)
+    → ((i : ℕ) → i < m → f i ≡ g i)
+    → scalarAt pt m f x ≡ scalarAt pt′ m g x
+unfolding scalarAt
+scalarAt-cong pt pt′ m f g x e v = fold-cong plus (scalar 0) m (λ i c. ap₂ times (weight-cong pt pt′ m i x c e) (v i c))
+
+pub elementAt-cong : (pt pt′ : ℕ → Scalar) (m : ℕ) (f g : ℕ → Element) (x : Scalar)
+    → ((l : ℕ) → l < m → pt l ≡ pt′ l)
+    → ((i : ℕ) → i < m → f i ≡ g i)
+    → elementAt pt m f x ≡ elementAt pt′ m g x
+unfolding elementAt
+elementAt-cong pt pt′ m f g x e v = fold-cong product (element 1) m (λ i c. ap₂ raise (v i c) (weight-cong pt pt′ m i x c e))
+
+-- the weights of a listed row, and what they make of values
+pub weights-listed : (m : ℕ) (pt : ℕ → Scalar) (x : Scalar) → m ≤ 64 → weightsOf (listed m pt) x ≡ listed m (λ i. weight pt m i x)
+unfolding weightsOf
+weights-listed m pt x h =
+    ap (λ (k : ℕ). listed k (λ i. weight (nth (listed m pt)) k i x)) (size-listed m pt h)
+    ∙ listed-cong m (λ i. weight (nth (listed m pt)) m i x) (λ i. weight pt m i x) (λ i c. weight-cong (nth (listed m pt)) pt m i x c (λ l d. nth-listed m pt l d h))
+
+pub sum-weights : (m : ℕ) (pt : ℕ → Scalar) (x : Scalar) (values : List Scalar)
+    → m ≤ 64
+    → sumOf (weightsOf (listed m pt) x) values ≡ scalarAt pt m (λ i. getD values i (scalar 0)) x
+unfolding sumOf scalarAt
+sum-weights m pt x values h =
+    ap (λ (w : Row). sumOf w values) (weights-listed m pt x h)
+    ∙ ap (λ (k : ℕ). fold plus (scalar 0) k (λ i. times (nth (listed m (λ i. weight pt m i x)) i) (getD values i (scalar 0)))) (size-listed m (λ i. weight pt m i x) h)
+    ∙ fold-cong plus (scalar 0) m (λ i c. ap (λ (w : Scalar). times w (getD values i (scalar 0))) (nth-listed m (λ i. weight pt m i x) i c h))
+
+pub product-weights : (m : ℕ) (pt : ℕ → Scalar) (x : Scalar) (values : List Element)
+    → m ≤ 64
+    → productOf (weightsOf (listed m pt) x) values ≡ elementAt pt m (λ i. getD values i (element 0)) x
+unfolding productOf elementAt
+product-weights m pt x values h =
+    ap (λ (w : Row). productOf w values) (weights-listed m pt x h)
+    ∙ ap (λ (k : ℕ). fold product (element 1) k (λ i. raise (getD values i (element 0)) (nth (listed m (λ i. weight pt m i x)) i))) (size-listed m (λ i. weight pt m i x) h)
+    ∙ fold-cong product (element 1) m (λ i c. ap (λ (w : Scalar). raise (getD values i (element 0)) w) (nth-listed m (λ i. weight pt m i x) i c h))

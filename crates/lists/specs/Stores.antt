@@ -1,0 +1,73 @@
+-- Runs of stores into a list, and a list filled with one element, at any element type; and their laws.
+-- Assumes nothing.
+use mathlib.Core.Path.{_≡_, refl, sym, ap, ap₂, _∙_}
+use mathlib.Core.List.{List}
+use mathlib.Core.Logic.{_≢_}
+use Prim.Native.Nat.{ℕ, zero, suc, _+_, _≤_, _<_}
+use native.Mathlib.Omega.{arith}
+use native.Mathlib.Nat.{zero-add}
+use native.Mathlib.Numerals.{add-one}
+use native.Mathlib.Decide.{ℕ-discrete, decLt}
+use lib.ListN.{length, getD, set, replicate, length-set, length-replicate, getD-replicate, List·getD-eq-default}
+use lib.Seq.{getD-set-same, getD-set-other}
+
+-- the list with f 0, .., f (k - 1) in place of what stands from base
+unfoldable pub stored : {A : Type 0} → List A → ℕ → ℕ → (ℕ → A) → List A
+stored l base zero f = l
+stored l base (suc k) f = set (stored l base k f) (base + k) (f k)
+
+-- n times x. Shut, so that a long list does not compute
+unfoldable pub filled : {A : Type 0} → ℕ → A → List A
+filled n x = replicate n x
+
+module _ {A : Type 0} where
+  -- ---- stores
+
+  pub length-stored : (l : List A) (base k : ℕ) (f : ℕ → A) → length (stored l base k f) ≡ length l
+  unfolding stored
+  length-stored l base zero f = refl
+  length-stored l base (suc k) f = length-set (stored l base k f) (base + k) (f k) ∙ length-stored l base k f
+
+  -- one store more, as a loop counts
+  pub stored-next : (l : List A) (base k : ℕ) (f : ℕ → A) → stored l base (k + 1) f ≡ set (stored l base k f) (base + k) (f k)
+  unfolding stored
+  stored-next l base k f = ap (λ (m : ℕ). stored l base m f) (add-one k)
+
+  -- what was stored is read there
+  pub stored-at : (l : List A) (base k : ℕ) (f : ℕ → A) (d : A) → base + k ≤ length l → (i : ℕ) → i < k → getD (stored l base k f) (base + i) d ≡ f i
+  unfolding stored
+  stored-at l base zero f d h i c = absurd (omega arith)
+  stored-at l base (suc k) f d h i c = go (ℕ-discrete i k) (λ b. stored-at l base k f d (omega arith) i b)
+    where
+      go : Dec (i ≡ k) → (i < k → getD (stored l base k f) (base + i) d ≡ f i) → getD (set (stored l base k f) (base + k) (f k)) (base + i) d ≡ f i
+      go (yes e) ih = rw e (getD-set-same (stored l base k f) (base + k) (f k) d (omega (arith, length-stored l base k f)))
+      go (no ne) ih = getD-set-other (stored l base k f) (base + k) (base + i) (f k) d (omega arith) ∙ ih (omega arith)
+
+  pub stored-from : (l : List A) (k : ℕ) (f : ℕ → A) (d : A) → k ≤ length l → (i : ℕ) → i < k → getD (stored l 0 k f) i d ≡ f i
+  stored-from l k f d h i c = ap (λ (x : ℕ). getD (stored l 0 k f) x d) (sym (zero-add i)) ∙ stored-at l 0 k f d (omega arith) i c
+
+  -- every other place is as it was
+  pub stored-other : (l : List A) (base k : ℕ) (f : ℕ → A) (d : A) (p : ℕ) → ((i : ℕ) → i < k → p ≢ base + i) → getD (stored l base k f) p d ≡ getD l p d
+  unfolding stored
+  stored-other l base zero f d p h = refl
+  stored-other l base (suc k) f d p h =
+      getD-set-other (stored l base k f) (base + k) p (f k) d (h k (omega arith)) ∙ stored-other l base k f d p (λ i c. h i (omega arith))
+
+  pub stored-cong : (l : List A) (base k : ℕ) (f g : ℕ → A) → ((i : ℕ) → i < k → f i ≡ g i) → stored l base k f ≡ stored l base k g
+  unfolding stored
+  stored-cong l base zero f g h = refl
+  stored-cong l base (suc k) f g h = ap₂ (λ (r : List A) (x : A). set r (base + k) x) (stored-cong l base k f g (λ i c. h i (omega arith))) (h k (omega arith))
+
+  -- ---- one element throughout
+
+  pub length-filled : (n : ℕ) (x : A) → length (filled n x) ≡ n
+  unfolding filled
+  length-filled n x = length-replicate n x
+
+  pub getD-filled : (n : ℕ) (x : A) (i : ℕ) → getD (filled n x) i x ≡ x
+  unfolding filled
+  getD-filled n x i = go (decLt i n)
+    where
+      go : Dec (i < n) → getD (replicate n x) i x ≡ x
+      go (yes l) = getD-replicate n i x x l
+      go (no ne) = List·getD-eq-default (replicate n x) x (omega (arith, length-replicate n x))

@@ -1,0 +1,101 @@
+-- Tests that compute: a choice, a test over the numbers below n, a refusal unless a test passes; and their laws.
+-- Assumes nothing.
+use mathlib.Core.Path.{_≡_, refl, sym, ap, ap₂, _∙_}
+use mathlib.Core.Bool.{Bool, true, false, _&&_, true≢false, and-eq-true-iff}
+use Prim.Native.Nat.{ℕ, zero, suc, _+_, _≤_, _<_}
+use native.Mathlib.Omega.{arith}
+use native.Mathlib.Numerals.{add-one}
+use native.Mathlib.Decide.{ℕ-discrete}
+-- not-yes : (b : Bool) → not b ≡ true → b ≡ false
+pub use borrow.Author.Tests.{not-true as not-yes}
+
+-- the first where the test passes, else the second
+abbrev pub pick : {A : Type 0} → Bool → A → A → A
+pick true a b = a
+pick false a b = b
+
+-- every number below n passes the test
+unfoldable pub allTo : ℕ → (ℕ → Bool) → Bool
+allTo zero f = true
+allTo (suc n) f = allTo n f && f n
+
+-- the refusal k unless the test passes, then the rest
+unfoldable pub require : Bool → ℕ → ℕ → ℕ
+require true k rest = rest
+require false k rest = k
+
+-- ---- choices
+
+-- what holds of both holds of the choice
+pub pick-case : {A : Type 0} (P : A → Type 0) (b : Bool) (x y : A) → (b ≡ true → P x) → (b ≡ false → P y) → P (pick b x y)
+pick-case P true x y p n = p refl
+pick-case P false x y p n = n refl
+
+-- a function of a choice chooses between its values
+pub pick-map : {A B : Type 0} (f : A → B) (b : Bool) (x y : A) → f (pick b x y) ≡ pick b (f x) (f y)
+pick-map f true x y = refl
+pick-map f false x y = refl
+
+-- ---- truth values
+
+pub no-both : {b : Bool} → b ≡ true → b ≡ false → ⊥
+no-both p n = true≢false (sym p ∙ n)
+
+pub and-left : (a b : Bool) → (a && b) ≡ true → a ≡ true
+and-left a b e = and-eq-true-iff a b .0 e .0
+
+pub and-right : (a b : Bool) → (a && b) ≡ true → b ≡ true
+and-right a b e = and-eq-true-iff a b .0 e .1
+
+-- ---- tests over the numbers below n
+
+-- one number more, as a loop counts
+pub all-next : (n : ℕ) (f : ℕ → Bool) → allTo (n + 1) f ≡ (allTo n f && f n)
+unfolding allTo
+all-next n f = ap (λ (k : ℕ). allTo k f) (add-one n)
+
+pub all-at : (n : ℕ) (f : ℕ → Bool) → allTo n f ≡ true → (i : ℕ) → i < n → f i ≡ true
+unfolding allTo
+all-at zero f e i l = absurd (omega arith)
+all-at (suc n) f e i l = go (ℕ-discrete i n) (all-at n f (and-left (allTo n f) (f n) e))
+  where
+    go : Dec (i ≡ n) → ((i : ℕ) → i < n → f i ≡ true) → f i ≡ true
+    go (yes d) ih = ap f d ∙ and-right (allTo n f) (f n) e
+    go (no ne) ih = ih i (omega arith)
+
+pub all-make : (n : ℕ) (f : ℕ → Bool) → ((i : ℕ) → i < n → f i ≡ true) → allTo n f ≡ true
+unfolding allTo
+all-make zero f h = refl
+all-make (suc n) f h = and-eq-true-iff (allTo n f) (f n) .1 (all-make n f (λ i l. h i (omega arith)), h n (omega arith))
+
+pub all-cong : (n : ℕ) (f g : ℕ → Bool) → ((i : ℕ) → i < n → f i ≡ g i) → allTo n f ≡ allTo n g
+unfolding allTo
+all-cong zero f g h = refl
+all-cong (suc n) f g h = ap₂ _&&_ (all-cong n f g (λ i l. h i (omega arith))) (h n (omega arith))
+
+-- a test that fails below m fails below n
+pub fails-stays : (f : ℕ → Bool) (m n : ℕ) → m ≤ n → allTo m f ≡ false → allTo n f ≡ false
+fails-stays f m n l e = go (allTo n f) refl
+  where
+    go : (b : Bool) → allTo n f ≡ b → b ≡ false
+    go true a = absurd (no-both (all-make m f (λ i h. all-at n f a i (omega arith))) e)
+    go false a = refl
+
+-- ---- refusals
+
+pub require-true : (b : Bool) (k x : ℕ) → b ≡ true → require b k x ≡ x
+unfolding require
+require-true b k x e = rw e
+
+pub require-false : (b : Bool) (k x : ℕ) → b ≡ false → require b k x ≡ k
+unfolding require
+require-false b k x e = rw e
+
+pub require-pass : (b : Bool) (k x : ℕ) → b ≡ true → x ≡ 0 → require b k x ≡ 0
+require-pass b k x e z = require-true b k x e ∙ z
+
+-- nothing refused: the test passed, and so did the rest
+pub passed : (b : Bool) (k x : ℕ) → require b k x ≡ 0 → 0 < k → (b ≡ true) × (x ≡ 0)
+unfolding require
+passed true k x e p = (refl, e)
+passed false k x e p = absurd (omega arith)

@@ -1,0 +1,1 @@
+// Tests over numbers, stores into lists and lists of members: definitions and laws in specs/, no code.

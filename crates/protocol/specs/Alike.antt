@@ -1,0 +1,49 @@
+-- Transcripts that are alike in setup, QUAL, the commitments of QUAL's dealers and the challenges have the same nonce commitments. Assumes nothing.
+use mathlib.Core.Path.{_≡_, refl, sym, ap, ap₂, _∙_}
+use mathlib.Core.Bool.{Bool, true, false, true≢false}
+use Prim.Native.Nat.{ℕ, _+_, _≤_, _<_}
+use native.Mathlib.Omega.{arith}
+use Rattle.algebra.specs.Fold.{fold, fold-cong}
+use Rattle.lists.specs.Tests.{pick}
+use Rattle.field.specs.declared.Scalar.{Scalar}
+use Rattle.field.specs.declared.Element.{Element}
+use Rattle.field.specs.Definitions.{element, product, raise}
+use Rattle.interpolation.specs.Definitions.{slot, committedPoint, elementAt}
+use Rattle.interpolation.specs.Rows.{elementAt-cong}
+use Rattle.records.specs.Parameters.{quorum, batch}
+use Rattle.protocol.specs.Transcript.{Transcript, dealingAt, coefficient, combinedAt, nonce}
+
+pub record Alike (w z : Transcript) : Type 0 where
+  pub n-same : w .n ≡ z .n
+  pub t-same : w .t ≡ z .t
+  pub a-same : w .a ≡ z .a
+  pub key-same : (j : ℕ) → j ≤ w .t → w .key j ≡ z .key j
+  pub qual-same : (i : ℕ) → 0 < i → i ≤ w .n → w .qual i ≡ z .qual i
+  pub commitment-same : (i v : ℕ) → 0 < i → i ≤ w .n → w .qual i ≡ true → v < quorum (w .t) (w .a) → w .commitment i v ≡ z .commitment i v
+  pub challenge-same : (u k : ℕ) → 0 < u → u ≤ batch (w .n) (w .t) → 0 < k → k ≤ w .a → w .challenge u k ≡ z .challenge u k
+
+module _ (w z : Transcript) (h : Alike w z) where
+  dealing-same : (i : ℕ) (x : Scalar) → 0 < i → i ≤ w .n → w .qual i ≡ true → dealingAt (w .t) (w .a) (w .commitment i) x ≡ dealingAt (z .t) (z .a) (z .commitment i) x
+  unfolding dealingAt
+  dealing-same i x p l e =
+      elementAt-cong (committedPoint (w .a)) (committedPoint (w .a)) (quorum (w .t) (w .a)) (w .commitment i) (z .commitment i) x
+      (λ v k. refl) (λ v k. h .commitment-same i v p l e k)
+      ∙ ap₂ (λ (t a : ℕ). elementAt (committedPoint a) (quorum t a) (z .commitment i) x) (h .t-same) (h .a-same)
+
+  combined-same : (u : ℕ) (x : Scalar) → combinedAt w u x ≡ combinedAt z u x
+  unfolding combinedAt
+  combined-same u x =
+      fold-cong product (element 1) (w .n) (λ i l. go i l (w .qual (i + 1)) (z .qual (i + 1)) refl (h .qual-same (i + 1) (omega arith) (omega arith)))
+      ∙ ap (λ (n : ℕ). fold product (element 1) n (λ i. pick (z .qual (i + 1)) (raise (dealingAt (z .t) (z .a) (z .commitment (i + 1)) x) (coefficient (i + 1) u)) (element 1))) (h .n-same)
+    where
+      go : (i : ℕ) → i < w .n → (b c : Bool) → w .qual (i + 1) ≡ b → w .qual (i + 1) ≡ c
+          → pick b (raise (dealingAt (w .t) (w .a) (w .commitment (i + 1)) x) (coefficient (i + 1) u)) (element 1)
+          ≡ pick c (raise (dealingAt (z .t) (z .a) (z .commitment (i + 1)) x) (coefficient (i + 1) u)) (element 1)
+      go i l true true e d = ap (λ (v : Element). raise v (coefficient (i + 1) u)) (dealing-same (i + 1) x (omega arith) (omega arith) e)
+      go i l true false e d = absurd (true≢false (sym e ∙ d))
+      go i l false true e d = absurd (true≢false (sym d ∙ e))
+      go i l false false e d = refl
+
+  pub nonce-same : (u k : ℕ) → nonce w u k ≡ nonce z u k
+  unfolding nonce
+  nonce-same u k = combined-same u (slot k)

@@ -1,0 +1,5 @@
+pub mod Transcript
+pub mod Arrays
+pub mod Alike
+pub mod Combined
+pub mod Signature

@@ -1,0 +1,122 @@
+// What a committee's public values come to, worked out on flat arrays.
+ghost use mathlib.Core.Path.{_≡_};
+ghost use mathlib.Core.Bool.{not, _&&_};
+ghost use Prim.Native.Nat.{_+_, _-_, _*_};
+ghost use lib.ListN.{getD};
+ghost use lib.Dec.{eqb};
+ghost use Rattle.sets.specs.Masks.{has};
+ghost use Rattle.field.specs.Definitions.{scalar, element, generator, raise};
+ghost use Rattle.interpolation.specs.Definitions.{party, slot, committedPoint, elementAt};
+ghost use Rattle.interpolation.specs.Rows.{productOf, sumOf};
+ghost use Rattle.protocol.specs.Transcript.{coefficient};
+ghost use Rattle.protocol.specs.Arrays.{commitmentIn, challengeIn, elements, scalars, combinedValue, memberPoints, memberNumbers};
+use field::Element;
+use field::Scalar;
+use interpolation::Row;
+
+// i^(u-1), i being the dealer's number.
+pub fn coefficient(i: u8, u: u8) -> Scalar
+    ensures { λ r. ⌜ r ≡ coefficient i u ⌝ }
+{
+    let exponent = if 0 < u { u - 1 } else { 0 };
+    Scalar(i as u32).power(exponent as u32)
+}
+
+// Whether a share for j is valid under committed values: the weights are those of the committed points at j.
+pub fn share_fits(weights: Row, values: [Element; 64], share: Scalar) -> bool
+    ensures { λ r. ⌜ r ≡ eqb (raise generator share .0) (productOf weights values .0) ⌝ }
+{
+    let image = weights.product(values);
+    let sent = Element::GENERATOR.pow(share);
+    sent.0 == image.0
+}
+
+// The committed values of the dealers of a set, combined for u.
+pub fn combined_values(list: [Element; 1024], qual: u64, n: u8, quorum: u8, u: u8) -> [Element; 64]
+    ensures { λ r. ⌜ r ≡ elements quorum (combinedValue n (has qual) (commitmentIn list) u) ⌝ }
+{
+    let mut values = [Element(0); 64];
+    for v in 0..quorum {
+        let mut product = Element::ONE;
+        for i in 0..n {
+            if sets::has(qual, i + 1) {
+                let at = i as usize * 32 + v as usize;
+                let value = if at < 1024 { list[at] } else { Element(0) };
+                product = product.mul(value.pow(coefficient(i + 1, u)));
+            }
+        }
+        if v < 64 {
+            values[v as usize] = product;
+        }
+    }
+    values
+}
+
+// S at the points 1-a to 0, and S_1 to S_t.
+pub fn key_values(key: [Element; 32], t: u8, a: u8) -> [Element; 64]
+    ensures { λ r. ⌜ r ≡ elements (t + a) (λ v. getD key (v + 1 - a) (element 0)) ⌝ }
+{
+    let mut values = [Element(0); 64];
+    let packed = a as usize;
+    for v in 0..(t as usize + packed) {
+        let j = if v < packed { 0 } else { v + 1 - packed };
+        let value = if j < 32 { key[j] } else { Element(0) };
+        if v < 64 {
+            values[v] = value;
+        }
+    }
+    values
+}
+
+// e(u,1) to e(u,a).
+pub fn challenge_values(list: [Scalar; 512], a: u8, u: u8) -> [Scalar; 64]
+    ensures { λ r. ⌜ r ≡ scalars a (λ v. challengeIn a list u (v + 1)) ⌝ }
+{
+    let mut values = [Scalar::ZERO; 64];
+    let before = if 0 < u { u - 1 } else { 0 };
+    let start = before as usize * a as usize;
+    for v in 0..a {
+        let at = start + v as usize;
+        let value = if at < 512 { list[at] } else { Scalar::ZERO };
+        if v < 64 {
+            values[v as usize] = value;
+        }
+    }
+    values
+}
+
+// The points of the members of a set.
+pub fn member_points(n: u8, set: u64) -> Row
+    ensures { λ r. ⌜ r ≡ memberPoints n set ⌝ }
+{
+    let mut at = [Scalar::ZERO; 64];
+    let mut count: u8 = 0;
+    for i in 0..n {
+        if sets::has(set, i + 1) {
+            at[count as usize] = interpolation::point(i + 1, 0);
+            count = count + 1;
+        }
+    }
+    Row {
+        at: at,
+        count: count,
+    }
+}
+
+// Their numbers for u.
+pub fn member_numbers(n: u8, set: u64, numbers: [Scalar; 1024], u: u8) -> [Scalar; 64]
+    ensures { λ r. ⌜ r ≡ memberNumbers n set numbers u ⌝ }
+{
+    let mut values = [Scalar::ZERO; 64];
+    let before = if 0 < u { u - 1 } else { 0 };
+    let mut count: u8 = 0;
+    for i in 0..n {
+        if sets::has(set, i + 1) {
+            let at = i as usize * 32 + before as usize;
+            let value = if at < 1024 { numbers[at] } else { Scalar::ZERO };
+            values[count as usize] = value;
+            count = count + 1;
+        }
+    }
+    values
+}

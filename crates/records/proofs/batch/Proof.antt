@@ -1,0 +1,26 @@
+-- `batch` meets its contract. Assumes nothing.
+use borrow.Author.Needs.{needs}
+use native.Mathlib.Omega.{arith}
+use Rattle.records.specs.Parameters.{batch}
+use Rattle.records.proofs.batch.Statement.{statement}
+use Rattle.records.proofs.batch.Tie as tie
+
+mul-twice : tie.Need-mul-twice
+mul-twice c = search needs
+
+cast-result : tie.Need-cast-result
+cast-result c = search needs
+
+sub-result : tie.Need-sub-result
+sub-result c = search needs
+
+returns : tie.Need-returns
+unfolding batch
+returns c = omega arith
+
+returns-2 : tie.Need-returns-2
+unfolding batch
+returns-2 c = omega arith
+
+pub batch-spec : {M : Type 1} → statement M
+batch-spec = tie.close (tie.spec mul-twice cast-result sub-result returns returns-2)

@@ -1,0 +1,5 @@
+pub mod Parameters
+pub mod Bytes
+pub mod Tags
+pub mod Refusals
+pub mod Laws

@@ -1,0 +1,24 @@
+-- The parameters of a committee: n parties, threshold t, packing a (document 01, "Points and weights").
+use Prim.Native.Nat.{ℕ, _+_, _*_, _-_}
+use mathlib.Core.Bool.{Bool, _&&_}
+use lib.Dec.{leb}
+
+-- the most parties that a committee has
+abbrev pub mostParties : ℕ
+mostParties = 32
+
+-- t and a at least 1, n at most 32, n at least 3t + 2a - 1
+unfoldable pub inBounds : ℕ → ℕ → ℕ → Bool
+inBounds n t a = leb 1 t && (leb 1 a && (leb n mostParties && leb (3 * t + 2 * a) (n + 1)))
+
+-- need = d' + 1 with d' = t + 2a - 2: the committed values of a dealing, and the responses that a signature takes
+unfoldable pub quorum : ℕ → ℕ → ℕ
+quorum t a = t + 2 * a - 1
+
+-- b = n - 2t: the signatures of a packed slot
+unfoldable pub batch : ℕ → ℕ → ℕ
+batch n t = n - 2 * t
+
+-- a party's number
+abbrev pub isParty : ℕ → ℕ → Bool
+isParty n i = leb 1 i && leb i n

@@ -1,0 +1,60 @@
+-- What is refused from the input alone, by kind of record (document 01, "From the input"): the refusal's number, or 0. Each number is asked of
+-- the whole record before the next one.
+use Prim.Native.Nat.{ℕ, _+_, _*_, _^_}
+use mathlib.Core.Bool.{Bool, _&&_}
+use mathlib.Core.List.{List}
+use lib.ListN.{length}
+use lib.Dec.{eqb, ltb, leb}
+use Rattle.lists.specs.Tests.{allTo, require}
+use Rattle.field.specs.Definitions.{isScalar, isElement}
+use Rattle.records.specs.Parameters.{inBounds, quorum, batch, isParty}
+use Rattle.records.specs.Bytes.{byteAt, numberAt, word, sender}
+use Rattle.records.specs.Tags.{setupLength, dealingLength, complaintLength, challengesLength, responseLength}
+
+-- SU: n, t, a, reserved; S, S_1 to S_t
+unfoldable pub setupRefusal : List ℕ → ℕ
+setupRefusal s =
+    require (leb 6 (length s) && eqb (length s) (setupLength (byteAt s 3))) 2
+    (require (eqb (byteAt s 5) 0) 3
+    (require (inBounds (byteAt s 2) (byteAt s 3) (byteAt s 4)) 4
+    (require (allTo (byteAt s 3 + 1) (λ j. isElement (word s 6 j))) 7 0)))
+
+-- where the shares of a dealing begin
+unfoldable pub sharesFrom : ℕ → ℕ → ℕ
+sharesFrom t a = 4 + 4 * quorum t a
+
+-- DE: dealer, reserved; the committed values; n shares
+unfoldable pub dealingRefusal : ℕ → ℕ → ℕ → List ℕ → ℕ
+dealingRefusal n t a s =
+    require (eqb (length s) (dealingLength n t a)) 2
+    (require (eqb (byteAt s 3) 0) 3
+    (require (isParty n (sender s)) 5
+    (require (allTo (quorum t a) (λ v. isElement (word s 4 v))) 7
+    (require (allTo n (λ j. isScalar (word s (sharesFrom t a) j))) 6 0))))
+
+-- a mask has no bit above bit n - 1
+unfoldable pub maskFits : ℕ → ℕ → Bool
+maskFits n mask = ltb mask (2 ^ n)
+
+-- VE: holder, reserved; the mask of the blamed dealers
+unfoldable pub complaintRefusal : ℕ → List ℕ → ℕ
+complaintRefusal n s =
+    require (eqb (length s) (complaintLength n)) 2
+    (require (eqb (byteAt s 3) 0) 3
+    (require (isParty n (sender s)) 5
+    (require (maskFits n (numberAt s 4)) 8 0)))
+
+-- CH: two reserved; the challenges
+unfoldable pub challengesRefusal : ℕ → ℕ → ℕ → List ℕ → ℕ
+challengesRefusal n t a s =
+    require (eqb (length s) (challengesLength n t a)) 2
+    (require (eqb (byteAt s 2) 0 && eqb (byteAt s 3) 0) 3
+    (require (allTo (a * batch n t) (λ x. isScalar (word s 4 x))) 6 0))
+
+-- RE: holder, reserved; b response numbers
+unfoldable pub responseRefusal : ℕ → ℕ → List ℕ → ℕ
+responseRefusal n t s =
+    require (eqb (length s) (responseLength n t)) 2
+    (require (eqb (byteAt s 3) 0) 3
+    (require (isParty n (sender s)) 5
+    (require (allTo (batch n t) (λ x. isScalar (word s 4 x))) 6 0)))

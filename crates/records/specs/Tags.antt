@@ -1,0 +1,53 @@
+-- The five kinds of record and their lengths (document 01, "Records"; its word for a tag is mark).
+use Prim.Native.Nat.{ℕ, _+_, _*_}
+use mathlib.Core.List.{List}
+use lib.ListN.{length}
+use lib.Dec.{eqb, ltb}
+use Rattle.lists.specs.Tests.{pick}
+use Rattle.records.specs.Parameters.{quorum, batch}
+use Rattle.records.specs.Bytes.{byteAt}
+
+pub data Tag : Type 0 where
+  SU : Tag
+  DE : Tag
+  VE : Tag
+  CH : Tag
+  RE : Tag
+  unknown : Tag
+
+-- the number by which the code knows a tag
+abbrev pub code : Tag → ℕ
+code SU = 1
+code DE = 2
+code VE = 3
+code CH = 4
+code RE = 5
+code unknown = 0
+
+-- the tag of a record: its first two bytes, in ASCII
+unfoldable pub tagOf : List ℕ → Tag
+tagOf s =
+    let m = byteAt s 0 * 256 + byteAt s 1 in
+    pick (ltb (length s) 2) unknown
+    (pick (eqb m 21333) SU
+    (pick (eqb m 17477) DE
+    (pick (eqb m 22085) VE
+    (pick (eqb m 17224) CH
+    (pick (eqb m 21061) RE unknown)))))
+
+-- ---- lengths
+
+unfoldable pub setupLength : ℕ → ℕ
+setupLength t = 4 * t + 10
+
+unfoldable pub dealingLength : ℕ → ℕ → ℕ → ℕ
+dealingLength n t a = 4 + 4 * quorum t a + 4 * n
+
+unfoldable pub complaintLength : ℕ → ℕ
+complaintLength n = 8
+
+unfoldable pub challengesLength : ℕ → ℕ → ℕ → ℕ
+challengesLength n t a = 4 + 4 * (a * batch n t)
+
+unfoldable pub responseLength : ℕ → ℕ → ℕ
+responseLength n t = 4 + 4 * batch n t

@@ -1,0 +1,103 @@
+-- Laws of the bits of a mask.
+-- Assumes nothing.
+use mathlib.Core.Path.{_≡_, refl, sym, ap, _∙_}
+use mathlib.Core.Bool.{false, not, _&&_, _||_, true≢false, false≢true}
+use Prim.Native.Nat.{ℕ, zero, suc, _-_, _/_, _%_, _^_, _≤_, _<_, min, max}
+use native.Mathlib.Omega.{arith}
+use native.Mathlib.Nat.{pow-suc, mul-comm, div-one, div-div-eq-div-mul}
+use lib.Arith.{bin-ind}
+use lib.Bits.{bitAnd, bitOr, and-step, and-le-l, or-step}
+use lib.Dec.{eqb, eqb·zero-suc, eqb·suc-zero, eqb·suc-suc}
+use borrow.Author.Tests.{eqb-false}
+use Rattle.sets.specs.Masks.{bit, minus}
+
+-- what holds of the four pairs of digit-pairs
+digit-pairs : (P : ℕ → ℕ → Type 0) → P 0 0 → P 0 1 → P 1 0 → P 1 1 → (x y : ℕ) → x < 2 → y < 2 → P x y
+digit-pairs P oo oi io ii zero zero a b = oo
+digit-pairs P oo oi io ii zero (suc zero) a b = oi
+digit-pairs P oo oi io ii zero (suc (suc y)) a b = absurd (omega arith)
+digit-pairs P oo oi io ii (suc zero) zero a b = io
+digit-pairs P oo oi io ii (suc zero) (suc zero) a b = ii
+digit-pairs P oo oi io ii (suc zero) (suc (suc y)) a b = absurd (omega arith)
+digit-pairs P oo oi io ii (suc (suc x)) y a b = absurd (omega arith)
+
+-- ---- the bits of an operation's result
+
+pub bit-or : (a b i : ℕ) → bit (bitOr a b) i ≡ (bit a i || bit b i)
+unfolding bit
+bit-or a b zero =
+    let e : bitOr a b % 2 ≡ max (a % 2) (b % 2) = omega (arith, or-step a b) in
+    ap (λ (x : ℕ). eqb x 1) e ∙ digit-pairs (λ x y. eqb (max x y) 1 ≡ (eqb x 1 || eqb y 1)) refl refl refl refl (a % 2) (b % 2) (omega arith) (omega arith)
+bit-or a b (suc i) =
+    let e : bitOr a b / 2 ≡ bitOr (a / 2) (b / 2) = omega (arith, or-step a b) in
+    ap (λ (m : ℕ). bit m i) e ∙ bit-or (a / 2) (b / 2) i
+
+pub bit-minus : (a b i : ℕ) → bit (minus a b) i ≡ (bit a i && not (bit b i))
+unfolding bit minus
+bit-minus a b zero =
+    let e : (a - bitAnd a b) % 2 ≡ a % 2 - min (a % 2) (b % 2) = omega (arith, and-step a b, and-le-l (a / 2) (b / 2)) in
+    ap (λ (x : ℕ). eqb x 1) e ∙ digit-pairs (λ x y. eqb (x - min x y) 1 ≡ (eqb x 1 && not (eqb y 1))) refl refl refl refl (a % 2) (b % 2) (omega arith) (omega arith)
+bit-minus a b (suc i) =
+    let e : (a - bitAnd a b) / 2 ≡ a / 2 - bitAnd (a / 2) (b / 2) = omega (arith, and-step a b, and-le-l (a / 2) (b / 2)) in
+    ap (λ (m : ℕ). bit m i) e ∙ bit-minus (a / 2) (b / 2) i
+
+pub bit-zero : (i : ℕ) → bit 0 i ≡ false
+unfolding bit
+bit-zero zero = refl
+bit-zero (suc i) = bit-zero i
+
+pub bit-pow : (k i : ℕ) → bit (2 ^ k) i ≡ eqb i k
+unfolding bit
+bit-pow zero zero = refl
+bit-pow zero (suc i) = bit-zero i ∙ sym (eqb·suc-zero i)
+bit-pow (suc k) zero =
+    let e : 2 ^ suc k % 2 ≡ 0 = omega (arith, pow-suc 2 k) in
+    ap (λ (x : ℕ). eqb x 1) e ∙ sym (eqb·zero-suc k)
+bit-pow (suc k) (suc i) =
+    let e : 2 ^ suc k / 2 ≡ 2 ^ k = omega (arith, pow-suc 2 k) in
+    ap (λ (x : ℕ). bit x i) e ∙ bit-pow k i ∙ sym (eqb·suc-suc i k)
+
+-- a bit as code reads it: shifted down, the lowest
+pub bit-is : (m i : ℕ) → bit m i ≡ eqb (m / 2 ^ i % 2) 1
+unfolding bit
+bit-is m zero = ap (λ (x : ℕ). eqb (x % 2) 1) (sym (div-one m))
+bit-is m (suc i) =
+    bit-is (m / 2) i
+    ∙ ap (λ (x : ℕ). eqb (x % 2) 1) (div-div-eq-div-mul m 2 (2 ^ i) ∙ ap (λ (x : ℕ). m / x) (mul-comm 2 (2 ^ i) ∙ sym (pow-suc 2 i)))
+
+-- ---- bits and bounds
+
+-- below 2 ^ k no bit from k is set
+pub bit-high : (k i m : ℕ) → m < 2 ^ k → k ≤ i → bit m i ≡ false
+unfolding bit
+bit-high zero zero m l h = let z : m ≡ 0 = omega arith in ap (λ (x : ℕ). eqb (x % 2) 1) z
+bit-high zero (suc i) m l h = let z : m / 2 ≡ 0 = omega arith in ap (λ (x : ℕ). bit x i) z ∙ bit-zero i
+bit-high (suc k) zero m l h = absurd (omega arith)
+bit-high (suc k) (suc i) m l h = bit-high k i (m / 2) (omega (arith, pow-suc 2 k)) (omega arith)
+
+no-bits : (m : ℕ) → ((i : ℕ) → bit m i ≡ false) → m ≡ 0
+unfolding bit
+no-bits =
+    bin-ind (λ (m : ℕ). ((i : ℕ) → bit m i ≡ false) → m ≡ 0) (λ h. refl)
+    (λ m ih h.
+    let high : m / 2 ≡ 0 = ih (λ i. h (suc i)) in
+    let low : m % 2 ≡ 1 → ⊥ = eqb-false (m % 2) 1 (h 0) in
+    omega arith)
+
+-- and the other way round
+pub bits-lt : (k m : ℕ) → ((i : ℕ) → k ≤ i → bit m i ≡ false) → m < 2 ^ k
+unfolding bit
+bits-lt zero m h = let z : m ≡ 0 = no-bits m (λ i. h i (omega arith)) in omega arith
+bits-lt (suc k) m h = let l : m / 2 < 2 ^ k = bits-lt k (m / 2) (λ i b. h (suc i) (omega arith)) in omega (arith, pow-suc 2 k)
+
+same-digit : (x y : ℕ) → x < 2 → y < 2 → eqb x 1 ≡ eqb y 1 → x ≡ y
+same-digit = digit-pairs (λ x y. eqb x 1 ≡ eqb y 1 → x ≡ y) (λ e. refl) (λ e. absurd (false≢true e)) (λ e. absurd (true≢false e)) (λ e. refl)
+
+-- a mask is its bits
+pub bits-ext : (k a b : ℕ) → a < 2 ^ k → b < 2 ^ k → ((i : ℕ) → i < k → bit a i ≡ bit b i) → a ≡ b
+unfolding bit
+bits-ext zero a b x y h = omega arith
+bits-ext (suc k) a b x y h =
+    let high : a / 2 ≡ b / 2 = bits-ext k (a / 2) (b / 2) (omega (arith, pow-suc 2 k)) (omega (arith, pow-suc 2 k)) (λ i l. h (suc i) (omega arith)) in
+    let low : a % 2 ≡ b % 2 = same-digit (a % 2) (b % 2) (omega arith) (omega arith) (h 0 (omega arith)) in
+    omega arith

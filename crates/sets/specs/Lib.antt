@@ -1,0 +1,4 @@
+pub mod BitLaws
+pub mod Masks
+pub mod MaskLaws
+pub mod MemberLaws

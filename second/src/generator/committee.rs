@@ -1,0 +1,120 @@
+//! The secrets of a committee, and the honest records made from them by the writers.
+
+use crate::arith::{Scalar, Q};
+use crate::params::{party_point, Params, Party};
+use crate::records::Tag;
+use crate::refusal::Refusal;
+use crate::rng::Rng;
+use crate::run::Run;
+use crate::weights::WeightTable;
+use crate::writers::{write_de, write_re, write_su, write_ve};
+
+pub struct Committee {
+    pub params: Params,
+    /// s.
+    pub secret: Scalar,
+    /// F(1) to F(t).
+    pub key_values: Vec<Scalar>,
+    /// For each party, the values of its H at the committed points.
+    pub dealings: Vec<Vec<Scalar>>,
+    weights: WeightTable,
+}
+
+/// A scalar, now and then one at the edge.
+pub fn random_scalar(rng: &mut Rng) -> Scalar {
+    let edges = [Scalar::ZERO, Scalar::ONE, Scalar::of(-1)];
+    if rng.chance(8) {
+        rng.pick(&edges)
+    } else {
+        Scalar::of(i64::from(rng.between(0, Q - 1)))
+    }
+}
+
+fn random_scalars(count: usize, rng: &mut Rng) -> Vec<Scalar> {
+    (0..count).map(|_| random_scalar(rng)).collect()
+}
+
+/// Parameters within the bounds, with this packing if there is one.
+pub fn random_params(packing: Option<u32>, rng: &mut Rng) -> Params {
+    loop {
+        let a = packing.unwrap_or_else(|| rng.between(1, 15)) as u8;
+        let (n, t) = (rng.between(4, 32) as u8, rng.between(1, 10) as u8);
+        if let Some(params) = Params::new(n, t, a) {
+            return params;
+        }
+    }
+}
+
+/// The record that a writer makes in a buffer of this length.
+fn written(length: usize, writer: impl FnOnce(&mut [u8]) -> Result<(), Refusal>) -> Vec<u8> {
+    let mut buffer = vec![0; length];
+    writer(&mut buffer).expect("the request is a good one");
+    buffer
+}
+
+pub fn as_numbers(scalars: &[Scalar]) -> Vec<u32> {
+    scalars.iter().map(|scalar| scalar.number()).collect()
+}
+
+pub fn as_bytes(params: Params) -> (u8, u8, u8) {
+    (params.n as u8, params.t as u8, params.a as u8)
+}
+
+impl Committee {
+    pub fn random(params: Params, rng: &mut Rng) -> Committee {
+        Committee {
+            params,
+            secret: random_scalar(rng),
+            key_values: random_scalars(params.t as usize, rng),
+            dealings: (0..params.n).map(|_| random_scalars(params.quorum(), rng)).collect(),
+            weights: WeightTable::default(),
+        }
+    }
+
+    /// F(j).
+    pub fn key_share(&self, j: Party) -> Scalar {
+        let mut values = vec![self.secret; self.params.a as usize];
+        values.extend(&self.key_values);
+        self.weights.scalar_at(&self.params.key_points(), &values, party_point(j))
+    }
+
+    /// H_i(j).
+    pub fn share(&self, i: Party, j: Party) -> Scalar {
+        let values = &self.dealings[(i - 1) as usize];
+        self.weights.scalar_at(&self.params.committed_points(), values, party_point(j))
+    }
+
+    /// The shares for j, by dealer number.
+    pub fn shares_for(&self, j: Party) -> Vec<u32> {
+        (1..=self.params.n).map(|i| self.share(i, j).number()).collect()
+    }
+
+    pub fn su(&self) -> Vec<u8> {
+        let (params, key_values) = (as_bytes(self.params), as_numbers(&self.key_values));
+        let length = Tag::Su.length(&self.params);
+        written(length, |buffer| write_su(params, self.secret.number(), &key_values, buffer))
+    }
+
+    pub fn de(&self, i: Party) -> Vec<u8> {
+        let values = as_numbers(&self.dealings[(i - 1) as usize]);
+        let length = Tag::De.length(&self.params);
+        written(length, |buffer| write_de(as_bytes(self.params), i as u8, &values, buffer))
+    }
+
+    pub fn ve(&self, run: &Run, j: Party) -> Vec<u8> {
+        written(Tag::Ve.length(&self.params), |buffer| write_ve(run, j as u8, buffer))
+    }
+
+    pub fn ch(&self, rng: &mut Rng) -> Vec<u8> {
+        let count = (self.params.a * self.params.combinations()) as usize;
+        let challenges = as_numbers(&random_scalars(count, rng));
+        let numbers = challenges.iter().flat_map(|number| number.to_be_bytes());
+        Tag::Ch.letters().iter().copied().chain([0, 0]).chain(numbers).collect()
+    }
+
+    pub fn re(&self, run: &Run, j: Party) -> Vec<u8> {
+        let (key_share, shares) = (self.key_share(j).number(), self.shares_for(j));
+        let length = Tag::Re.length(&self.params);
+        written(length, |buffer| write_re(run, j as u8, key_share, &shares, buffer))
+    }
+}

@@ -1,0 +1,82 @@
+//! The logs that document 01 gives: the worked one and its cases B, C, D, E, L.
+
+/// A record from its letters, its one-byte fields and its numbers.
+pub fn record(letters: &str, fields: &[u8], numbers: &[u32]) -> Vec<u8> {
+    let mut bytes = [letters.as_bytes(), fields].concat();
+    bytes.extend(numbers.iter().flat_map(|number| number.to_be_bytes()));
+    bytes
+}
+
+fn setup() -> Vec<u8> {
+    record("SU", &[4, 1, 1, 0], &[4, 16])
+}
+
+/// The three dealings, with the shares for 2 of dealers 2 and 3 as sent.
+fn dealings(second: u32, third: u32) -> Vec<Vec<u8>> {
+    vec![
+        record("DE", &[1, 0], &[1, 4, 1, 2, 3, 4]),
+        record("DE", &[2, 0], &[4, 4, 1, second, 1, 1]),
+        record("DE", &[3, 0], &[16, 64, 3, third, 5, 6]),
+    ]
+}
+
+/// The three complaint rows, with holder 2's mask.
+fn complaints(mask: u32) -> Vec<Vec<u8>> {
+    vec![record("VE", &[2, 0], &[mask]), record("VE", &[3, 0], &[0]), record("VE", &[4, 0], &[0])]
+}
+
+fn challenges() -> Vec<u8> {
+    record("CH", &[0, 0], &[1, 2])
+}
+
+pub fn response(holder: u8, numbers: [u32; 2]) -> Vec<u8> {
+    record("RE", &[holder, 0], &numbers)
+}
+
+/// The records before any response.
+fn prelude(second: u32, third: u32, mask: u32) -> Vec<Vec<u8>> {
+    let start = [vec![setup()], dealings(second, third), complaints(mask)].concat();
+    [start, vec![challenges()]].concat()
+}
+
+/// The worked log up to CH.
+pub fn up_to_challenges() -> Vec<u8> {
+    prelude(1, 4, 0).concat()
+}
+
+/// A: the worked log.
+pub fn worked() -> Vec<u8> {
+    [up_to_challenges(), response(2, [10, 22]), response(3, [13, 28])].concat()
+}
+
+/// B: a response from 1, who is not in HOLD.
+pub fn outsider() -> Vec<u8> {
+    [up_to_challenges(), response(1, [0, 0])].concat()
+}
+
+/// C: a response number that does not pass.
+pub fn failing() -> Vec<u8> {
+    [up_to_challenges(), response(2, [11, 22])].concat()
+}
+
+/// D: dealer 3 wrongs holder 2 and is blamed.
+pub fn one_bad() -> Vec<u8> {
+    let start = prelude(1, 5, 4).concat();
+    [start, response(2, [6, 10]), response(3, [8, 13])].concat()
+}
+
+/// E: holder 2 blames dealer 3 without cause.
+pub fn false_blame() -> Vec<u8> {
+    let start = [vec![setup()], dealings(1, 4)].concat().concat();
+    [start, record("VE", &[2, 0], &[4])].concat()
+}
+
+/// L: dealers 2 and 3 wrong holder 2 and are blamed, one more than t.
+pub fn too_many_bad() -> Vec<u8> {
+    [vec![setup()], dealings(2, 5), complaints(6)].concat().concat()
+}
+
+/// F and G: an SU of these parameters whose keys are all 4.
+pub fn plain_setup(n: u8, t: u8, a: u8) -> Vec<u8> {
+    record("SU", &[n, t, a, 0], &vec![4; usize::from(t) + 1])
+}

@@ -1,0 +1,284 @@
+//! Logs at the limits of the format: setups at the bounds, cut logs, records
+//! after the end, senseless bytes, the longest logs, floods of refused
+//! records, and good logs changed at random.
+
+use super::document::{self, record};
+use super::logs::{add_every_alien, completed, Gathered};
+use super::session::Session;
+use super::spoil;
+use crate::arith::{Element, P, Q};
+use crate::params::Params;
+use crate::records::{setup_length, Tag};
+use crate::refusal::Refusal;
+use crate::report::LONGEST_LOG;
+use crate::rng::Rng;
+use crate::run::Stage;
+
+/// A committee small enough for many records in one log.
+fn small_session(rng: &mut Rng) -> Session {
+    let (n, t, a) = rng.pick(&[(4, 1, 1), (6, 1, 2), (7, 2, 1), (8, 1, 3)]);
+    Session::new(Params::new(n, t, a).expect("within the bounds"), rng)
+}
+
+/// A session at a stage; for stage 6 one dealer too many is bad.
+fn session_at(stage: Stage, session: Session, rng: &mut Rng) -> Session {
+    let too_many = session.params().t as usize + 1;
+    let mut session = match stage {
+        Stage::Failed => session.with_bad_dealers(too_many, rng),
+        _ => session,
+    };
+    session.go_to(stage, rng);
+    assert_eq!(session.run.stage, stage);
+    session
+}
+
+pub fn setup_logs(gathered: &mut Gathered, rng: &mut Rng) {
+    gathered.add("setup-outside-bounds", outside_bounds(rng));
+    gathered.add("setup-extreme-bytes", extreme_parameters(rng));
+    gathered.add("setup-bad-keys", bad_keys(rng));
+    gathered.add_many("setup-only", 4, |_| Session::random(rng).committee.su());
+    for stage in &Stage::ALL[1..] {
+        gathered.add_many(&format!("late-setup-{}", stage.number()), 2, |_| {
+            let session = small_session(rng);
+            late_setups(session_at(*stage, session, rng), rng)
+        });
+    }
+}
+
+/// Setups one step outside each bound, then a good log.
+fn outside_bounds(rng: &mut Rng) -> Vec<u8> {
+    let mut session = small_session(rng);
+    for (t, a) in (0..=12).flat_map(|t| (0..=17).map(move |a| (t, a))) {
+        let least = 3 * t + 2 * a - 1;
+        let n = if t == 0 || a == 0 { 32 } else { least - 1 };
+        session.refuse(&document::plain_setup(n as u8, t as u8, a as u8), Refusal::Bounds);
+        session.refuse(&document::plain_setup(33, t as u8, a as u8), Refusal::Bounds);
+    }
+    completed(session, rng)
+}
+
+/// Setups whose parameters are 0 or 255, then a good log.
+fn extreme_parameters(rng: &mut Rng) -> Vec<u8> {
+    let mut session = small_session(rng);
+    let extremes =
+        [(0, 0, 0), (255, 255, 255), (4, 255, 1), (4, 1, 255), (255, 1, 1), (0, 1, 1), (32, 0, 1)];
+    for (n, t, a) in extremes {
+        session.refuse(&document::plain_setup(n, t, a), Refusal::Bounds);
+    }
+    completed(session, rng)
+}
+
+/// Setups with each kind of number that is no element, then a good log.
+fn bad_keys(rng: &mut Rng) -> Vec<u8> {
+    let mut session = small_session(rng);
+    for number in [0, 2, 3, 4, 5, Q - 1, Q, Q + 1, P - 4, P - 1, P, P + 1, P + 4, u32::MAX] {
+        let is_element = Element::read(number).is_some();
+        if !is_element {
+            session.refuse(&record("SU", &[4, 1, 1, 0], &[number, 4]), Refusal::Element);
+            session.refuse(&record("SU", &[4, 1, 1, 0], &[4, number]), Refusal::Element);
+        }
+    }
+    completed(session, rng)
+}
+
+/// Setups of many lengths at a later stage, then the rest of the log.
+fn late_setups(mut session: Session, rng: &mut Rng) -> Vec<u8> {
+    for t in [0, 1, 2, 3, 10, 11, 100, 255] {
+        let contents = rng.bytes(setup_length(t) - 4);
+        let late = [b"SU", &[rng.byte(), t][..], &contents].concat();
+        session.refuse(&late, Refusal::Stage);
+    }
+    completed(session, rng)
+}
+
+/// Good logs that break off at every kind of place of every stage.
+pub fn cut_logs(gathered: &mut Gathered, rng: &mut Rng) {
+    for stage in Stage::ALL {
+        let session = small_session(rng);
+        let session = session_at(stage, session, rng);
+        let kind = format!("cut-at-{}", stage.number());
+        for tail in cut_tails(&session, rng) {
+            gathered.add(&kind, [session.bytes.clone(), tail].concat());
+        }
+    }
+}
+
+/// The beginnings of records to break off after.
+fn cut_tails(session: &Session, rng: &mut Rng) -> Vec<Vec<u8>> {
+    let mut tails = Vec::new();
+    for tag in Tag::ALL {
+        let taken = session.run.stage.takes() == Some(tag);
+        let whole = if taken { session.next_record(rng) } else { spoil::alien(session, tag, rng) };
+        let any = rng.between(2, whole.len() as u32 - 1) as usize;
+        let mut lengths = match (taken, tag) {
+            (true, Tag::Su) => vec![1, 2, 3, 4, 5, 6, 9, whole.len() - 1],
+            (true, _) => vec![1, 2, 3, 4, any, whole.len() - 1],
+            (false, Tag::Su) => vec![2, 5, 6, whole.len() - 1],
+            (false, _) => vec![any],
+        };
+        lengths.dedup();
+        tails.extend(lengths.into_iter().map(|length| whole[..length].to_vec()));
+    }
+    tails
+}
+
+/// Records after stages 5 and 6, with and without a cut one last.
+pub fn after_end_logs(gathered: &mut Gathered, rng: &mut Rng) {
+    for stage in [Stage::Done, Stage::Failed] {
+        let kind = format!("after-{}", stage.number());
+        gathered.add_many(&kind, 6, |index| {
+            let session = Session::random(rng);
+            let mut session = session_at(stage, session, rng);
+            add_every_alien(&mut session, rng);
+            for _ in 0..rng.between(0, 12) {
+                session.add_alien(rng);
+            }
+            let tail: &[u8] = [&b""[..], b"V", b"XX", b"RE\x01", b"SU\x04\x01\x01", b"VE\0"][index];
+            [&session.bytes, tail].concat()
+        });
+    }
+}
+
+/// Empty, random and nearly right bytes.
+pub fn senseless_logs(gathered: &mut Gathered, rng: &mut Rng) {
+    gathered.add("empty", Vec::new());
+    for text in [
+        "S",
+        "su\x04\x01\x01",
+        "US",
+        "\0\0\0\0",
+        "SUSUSUSUSUSU",
+        "a log of words",
+        "DE",
+        "RE",
+        "S\n",
+    ] {
+        gathered.add("senseless-text", text.as_bytes().to_vec());
+    }
+    gathered.add_many("senseless-bytes", 4, |index| rng.bytes(1 + 40 * index));
+    for tag in Tag::ALL {
+        gathered.add("senseless-after-tag", [tag.letters().as_slice(), &rng.bytes(300)].concat());
+    }
+    for stage in Stage::ALL {
+        let session = small_session(rng);
+        let session = session_at(stage, session, rng);
+        gathered.add("senseless-tail", [session.bytes, rng.bytes(60)].concat());
+    }
+}
+
+/// Logs about as long as a log may be.
+pub fn size_logs(gathered: &mut Gathered, rng: &mut Rng) {
+    for size in [LONGEST_LOG - 1, LONGEST_LOG, LONGEST_LOG + 1] {
+        gathered.add(&format!("size-{size}-zeros"), vec![0; size]);
+        let session = Session::random(rng);
+        let done = session_at(Stage::Done, session, rng);
+        gathered.add(&format!("size-{size}-done"), padded(done.bytes, size));
+        let session = small_session(rng);
+        let begun = session_at(Stage::Dealing, session, rng);
+        gathered.add(&format!("size-{size}-begun"), padded(begun.bytes, size));
+    }
+    gathered.add("size-ends-done", exactly_filled(rng));
+    gathered.add("size-over-70000", padded(document::worked(), 70_000));
+    gathered.add("size-setups", large_setups());
+}
+
+/// Refused VE records after the bytes until they have this size.
+fn padded(mut bytes: Vec<u8>, size: usize) -> Vec<u8> {
+    let filler = record("VE", &[1, 0], &[0]);
+    bytes.extend(filler.iter().cycle().take(size - bytes.len()));
+    bytes
+}
+
+/// A log of the greatest size whose last byte ends the last response.
+fn exactly_filled(rng: &mut Rng) -> Vec<u8> {
+    let setup = document::plain_setup(4, 1, 1).len();
+    let worked = document::worked();
+    let room = LONGEST_LOG - worked.len();
+    let t = match (room - setup_length(1)) % 8 {
+        0 => 1,
+        _ => 2,
+    };
+    let late = [b"SU\x04", &[t][..], &rng.bytes(setup_length(t) - 4)].concat();
+    let filler = padded(late, room);
+    [&worked[..setup], &filler, &worked[setup..]].concat()
+}
+
+/// Setups of 1,030 bytes until the log is as long as it may be.
+fn large_setups() -> Vec<u8> {
+    let setup = document::plain_setup(32, 255, 1);
+    setup.iter().copied().cycle().take(LONGEST_LOG).collect()
+}
+
+/// Thousands of refused records of 8 bytes.
+pub fn flood_logs(gathered: &mut Gathered, rng: &mut Rng) {
+    for stage in [Stage::Dealing, Stage::Challenging, Stage::Done, Stage::Failed] {
+        let session = small_session(rng);
+        let mut session = session_at(stage, session, rng);
+        for _ in 0..4000 {
+            let alien = record("VE", &[rng.byte(), 0], &[0]);
+            session.refuse(&alien, Refusal::Stage);
+        }
+        gathered.add("flood", completed(session, rng));
+    }
+    gathered.add("flood-of-complaints", complaint_flood(rng));
+}
+
+/// Thousands of refused complaint rows at their own stage, then the rest.
+fn complaint_flood(rng: &mut Rng) -> Vec<u8> {
+    let session = small_session(rng).with_bad_dealers(1, rng);
+    let mut session = session_at(Stage::Complaining, session, rng);
+    session.go_on(1, rng);
+    while session.bytes.len() < 60_000 {
+        for (record, refusal) in spoil::all_faults(&session, rng) {
+            session.refuse(&record, refusal);
+        }
+    }
+    completed(session, rng)
+}
+
+/// Good logs with bytes changed, cut out or doubled, and records in no order.
+pub fn changed_logs(gathered: &mut Gathered, rng: &mut Rng) {
+    gathered.add_many("changed-bytes", 50, |_| {
+        let mut log = base_log(rng);
+        for _ in 0..rng.between(1, 3) {
+            let place = rng.below(log.len());
+            log[place] = if rng.chance(50) { rng.byte() } else { log[place] ^ 1 << rng.below(8) };
+        }
+        log
+    });
+    gathered.add_many("spliced", 20, |_| spliced(rng));
+    gathered.add_many("jumbled", 16, |_| jumbled(rng));
+}
+
+/// A small complete log with some noise.
+fn base_log(rng: &mut Rng) -> Vec<u8> {
+    let bad = rng.between(0, 1) as usize;
+    let session = small_session(rng).with_bad_dealers(bad, rng);
+    completed(session.with_noise(15), rng)
+}
+
+/// A log with a piece left out or doubled.
+fn spliced(rng: &mut Rng) -> Vec<u8> {
+    let log = base_log(rng);
+    let (x, y) = (rng.below(log.len()), rng.below(log.len()));
+    let (head, tail) = (&log[..x], &log[y..]);
+    [head, tail].concat()
+}
+
+/// A setup, then records of any tag with numbers from a short list.
+fn jumbled(rng: &mut Rng) -> Vec<u8> {
+    let session = small_session(rng);
+    let numbers = [1, 4, 16, 64, 0, Q - 1, 5, Q, P - 1, P];
+    let mut log = session.committee.su();
+    for _ in 0..rng.between(20, 80) {
+        let tag = rng.pick(&[Tag::De, Tag::De, Tag::Ve, Tag::Ve, Tag::Ch, Tag::Re]);
+        let sender = rng.between(0, session.params().n + 1) as u8;
+        log.extend(tag.letters());
+        log.extend([if tag == Tag::Ch { 0 } else { sender }, 0]);
+        let choice = rng.between(1, numbers.len() as u32) as usize;
+        for _ in 0..(session.length(tag) - 4) / 4 {
+            log.extend(rng.pick(&numbers[..choice]).to_be_bytes());
+        }
+    }
+    log
+}

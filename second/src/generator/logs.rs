@@ -1,0 +1,285 @@
+//! Every kind of log: those of document 01, committees that run their course
+//! with and without faults, and (in `edges`) logs at the limits of the format.
+
+use super::committee::random_params;
+use super::document;
+use super::edges;
+use super::session::Session;
+use super::spoil;
+use crate::params::Params;
+use crate::records::Tag;
+use crate::refusal::Refusal;
+use crate::rng::Rng;
+use crate::run::Stage;
+
+/// A log and the name of its kind.
+pub struct NamedLog {
+    pub kind: String,
+    pub bytes: Vec<u8>,
+}
+
+/// The logs gathered so far.
+#[derive(Default)]
+pub struct Gathered {
+    pub logs: Vec<NamedLog>,
+}
+
+impl Gathered {
+    pub fn add(&mut self, kind: &str, bytes: Vec<u8>) {
+        self.logs.push(NamedLog { kind: kind.to_string(), bytes });
+    }
+
+    /// Adds so many logs of a kind.
+    pub fn add_many(&mut self, kind: &str, count: usize, mut make: impl FnMut(usize) -> Vec<u8>) {
+        for index in 0..count {
+            self.add(kind, make(index));
+        }
+    }
+}
+
+/// Every log of the set that a seed gives.
+pub fn all_logs(seed: u64) -> Vec<NamedLog> {
+    let mut rng = Rng::new(seed);
+    let mut gathered = Gathered::default();
+    let groups = [
+        document_logs,
+        full_packing_logs,
+        complete_logs,
+        other_quorum_logs,
+        wrong_share_logs,
+        stopped_logs,
+        fault_logs,
+        edges::setup_logs,
+        edges::cut_logs,
+        edges::after_end_logs,
+        edges::senseless_logs,
+        edges::size_logs,
+        edges::flood_logs,
+        edges::changed_logs,
+    ];
+    for group in groups {
+        group(&mut gathered, &mut rng);
+    }
+    gathered.logs
+}
+
+fn document_logs(gathered: &mut Gathered, _: &mut Rng) {
+    gathered.add("worked", document::worked());
+    gathered.add("case-b", document::outsider());
+    gathered.add("case-c", document::failing());
+    gathered.add("case-d", document::one_bad());
+    gathered.add("case-e", document::false_blame());
+    gathered.add("case-l", document::too_many_bad());
+    gathered.add("case-f-least", document::plain_setup(4, 1, 1));
+    gathered.add("case-f-most", document::plain_setup(32, 1, 15));
+    gathered.add("case-g-least", document::plain_setup(3, 1, 1));
+    gathered.add("case-g-most", document::plain_setup(32, 1, 16));
+}
+
+/// Every (n, t, a) within the bounds with n = 3t+2a-1.
+fn full_packings() -> Vec<Params> {
+    let pairs = (1..=10u8).flat_map(|t| (1..=15u8).map(move |a| (t, a)));
+    pairs.filter_map(|(t, a)| Params::new(3 * t + 2 * a - 1, t, a)).collect()
+}
+
+fn full_packing_logs(gathered: &mut Gathered, rng: &mut Rng) {
+    let packings = full_packings();
+    for &params in packings.iter().step_by(3) {
+        let session = Session::new(params, rng);
+        gathered.add("full-packing", completed(session, rng));
+    }
+    for (n, t, a) in [(32, 1, 15), (32, 10, 1), (32, 2, 13), (31, 10, 1), (32, 9, 3)] {
+        let params = Params::new(n, t, a).expect("within the bounds");
+        let kind = format!("complete-{n}-{t}-{a}");
+        gathered.add(&kind, completed(Session::new(params, rng), rng));
+        let session = Session::new(params, rng).with_bad_dealers(usize::from(t), rng);
+        gathered.add(&format!("{kind}-noisy"), completed(session.with_noise(15), rng));
+    }
+}
+
+/// The bytes of a session that goes on to its end.
+pub fn completed(mut session: Session, rng: &mut Rng) -> Vec<u8> {
+    session.go_to(Stage::Done, rng);
+    session.bytes
+}
+
+/// Honest committees, with and without refused records in between.
+fn complete_logs(gathered: &mut Gathered, rng: &mut Rng) {
+    for packing in 1..=5 {
+        gathered.add_many(&format!("honest-packing-{packing}"), 8, |_| {
+            let params = random_params(Some(packing), rng);
+            completed(Session::new(params, rng), rng)
+        });
+    }
+    gathered.add_many("honest", 25, |_| completed(Session::random(rng), rng));
+    gathered.add_many("noisy", 30, |_| completed(Session::random(rng).with_noise(30), rng));
+    gathered.add_many("very-noisy", 12, |_| {
+        let packing = Some(rng.between(1, 4));
+        let params = random_params(packing, rng);
+        completed(Session::new(params, rng).with_noise(75), rng)
+    });
+}
+
+/// The same log to CH, then responses from different members of HOLD.
+fn other_quorum_logs(gathered: &mut Gathered, rng: &mut Rng) {
+    for packing in 1..=3 {
+        let params = random_params(Some(packing), rng);
+        let mut session = Session::new(params, rng).with_bad_dealers(1, rng);
+        session.go_to(Stage::Responding, rng);
+        let (bytes, run) = (session.bytes.clone(), session.run.clone());
+        gathered.add_many("other-quorum", 4, |_| {
+            session.bytes = bytes.clone();
+            session.run = run.clone();
+            session.responders = rng.some_of(&session.holders, params.quorum());
+            session.go_to(Stage::Done, rng);
+            session.bytes.clone()
+        });
+    }
+}
+
+/// Committees with wrong shares, blamed and not.
+fn wrong_share_logs(gathered: &mut Gathered, rng: &mut Rng) {
+    gathered.add_many("wrong-blamed", 20, |_| {
+        let session = Session::random(rng);
+        let count = rng.between(1, session.params().t) as usize;
+        completed(session.with_bad_dealers(count, rng).with_noise(10), rng)
+    });
+    gathered.add_many("wrong-at-limit", 12, |_| {
+        let session = Session::random(rng);
+        let count = session.params().t as usize;
+        completed(session.with_bad_dealers(count, rng), rng)
+    });
+    gathered.add_many("wrong-unblamed", 14, |_| {
+        let session = Session::random(rng);
+        let count = session.params().majority();
+        completed(session.with_bad_dealers(count, rng).with_silence(), rng)
+    });
+    gathered.add_many("wrong-half-blamed", 12, |_| completed(half_silent(rng), rng));
+    gathered.add_many("too-many-bad", 16, |index| {
+        let session = Session::random(rng);
+        let (t, most) = (session.params().t as usize, session.params().majority());
+        let count = if index % 2 == 0 { t + 1 } else { most };
+        completed(session.with_bad_dealers(count, rng).with_noise(10), rng)
+    });
+    gathered.add("all-wronged", completed(all_wronged(rng), rng));
+    gathered.add("last-dealer-blamed", completed(last_dealer_blamed(rng), rng));
+}
+
+/// Bad dealers, of whose holders some leave their complaints out.
+fn half_silent(rng: &mut Rng) -> Session {
+    let session = Session::random(rng);
+    let count = session.params().t as usize + 1;
+    let mut session = session.with_bad_dealers(count, rng);
+    let quiet = rng.some_of(&session.holders, session.holders.len() / 2);
+    session.silent = quiet.into_iter().collect();
+    session
+}
+
+/// One dealer sends a wrong share to everyone.
+fn all_wronged(rng: &mut Rng) -> Session {
+    let mut session = Session::random(rng);
+    let (dealer, n) = (session.dealers[0], session.params().n);
+    session.wrong = (1..=n).map(|holder| (dealer, holder)).collect();
+    session
+}
+
+/// Dealer 32 of 32 is blamed by holder 32: the highest bit of the mask.
+fn last_dealer_blamed(rng: &mut Rng) -> Session {
+    let params = Params::new(32, 3, 5).expect("within the bounds");
+    loop {
+        let mut session = Session::new(params, rng);
+        if session.dealers.contains(&32) && session.holders.contains(&32) {
+            session.wrong = [(32, 32)].into();
+            return session;
+        }
+    }
+}
+
+/// Logs that end at each stage from 0 to 4, with some of its records accepted.
+fn stopped_logs(gathered: &mut Gathered, rng: &mut Rng) {
+    gathered.add_many("stopped-0", 3, |_| {
+        let mut session = Session::random(rng);
+        for _ in 0..5 {
+            session.make_noise(rng);
+        }
+        session.bytes
+    });
+    for stage in &Stage::ALL[1..=4] {
+        gathered.add_many(&format!("stopped-{}", stage.number()), 5, |index| {
+            stopped(Session::random(rng).with_noise(20), *stage, index, rng)
+        });
+    }
+}
+
+/// A session that stops with none, one, some or all but one of a stage's records.
+fn stopped(mut session: Session, stage: Stage, index: usize, rng: &mut Rng) -> Vec<u8> {
+    session.go_to(stage, rng);
+    let wanted = match stage {
+        Stage::Dealing | Stage::Complaining => session.params().majority(),
+        Stage::Responding => session.params().quorum(),
+        _ => 1,
+    };
+    let steps = [0, 1, wanted / 2, wanted - 1][index % 4].min(wanted - 1);
+    session.go_on(steps, rng);
+    session.bytes
+}
+
+/// Every set of faults a record can have, at every stage.
+fn fault_logs(gathered: &mut Gathered, rng: &mut Rng) {
+    for (n, t, a) in [(4, 1, 1), (7, 1, 2), (9, 2, 2), (31, 1, 14), (32, 4, 6), (10, 1, 1)] {
+        let params = Params::new(n, t, a).expect("within the bounds");
+        let session = Session::new(params, rng).with_bad_dealers(usize::from(t), rng);
+        gathered.add("every-fault", with_every_fault(session, rng));
+    }
+}
+
+/// The faults are made before the last record of each stage; after it comes a
+/// record of each tag that the next stage does not take.
+fn with_every_fault(mut session: Session, rng: &mut Rng) -> Vec<u8> {
+    while !session.at_end() {
+        let last = is_last_of_stage(&session, rng);
+        if last {
+            add_every_fault(&mut session, rng);
+        }
+        session.step(rng);
+        if last {
+            add_every_alien(&mut session, rng);
+        }
+    }
+    session.bytes
+}
+
+/// A record of each tag that the stage does not take.
+pub fn add_every_alien(session: &mut Session, rng: &mut Rng) {
+    let taken = session.run.stage.takes();
+    for tag in Tag::ALL.into_iter().filter(|&tag| Some(tag) != taken) {
+        let record = spoil::alien(session, tag, rng);
+        session.refuse(&record, Refusal::Stage);
+    }
+}
+
+/// Does the next good record end the stage?
+fn is_last_of_stage(session: &Session, rng: &mut Rng) -> bool {
+    let mut ahead = session.run.clone();
+    assert_eq!(ahead.give(&session.next_record(rng)), Ok(()));
+    ahead.stage != session.run.stage
+}
+
+fn add_every_fault(session: &mut Session, rng: &mut Rng) {
+    for (record, refusal) in spoil::all_faults(session, rng) {
+        session.refuse(&record, refusal);
+    }
+    if session.run.stage == Stage::Responding {
+        add_wronged_responses(session, rng);
+    }
+}
+
+/// Every response number in turn is off by one.
+fn add_wronged_responses(session: &mut Session, rng: &mut Rng) {
+    let good = session.next_record(rng);
+    for u in 0..session.params().combinations() as usize {
+        let mut record = good.clone();
+        spoil::shift_number(&mut record, 4 + 4 * u, 1);
+        session.refuse(&record, Refusal::Response);
+    }
+}

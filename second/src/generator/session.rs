@@ -1,0 +1,180 @@
+//! A log in the making: a committee, the run that its records are given to,
+//! and the bytes so far. Every record is written with the answer it must get,
+//! and a different answer stops the generator.
+
+use super::committee::{random_params, Committee};
+use super::spoil;
+use crate::arith::Scalar;
+use crate::params::{Params, Party};
+use crate::records::Tag;
+use crate::refusal::Refusal;
+use crate::rng::Rng;
+use crate::run::{Run, Stage};
+use std::collections::BTreeSet;
+
+pub struct Session {
+    pub committee: Committee,
+    pub run: Run,
+    pub bytes: Vec<u8>,
+    /// The senders at stages 1, 2 and 4, in order.
+    pub dealers: Vec<Party>,
+    pub holders: Vec<Party>,
+    pub responders: Vec<Party>,
+    /// The dealer and the holder of each share sent wrongly.
+    pub wrong: BTreeSet<(Party, Party)>,
+    /// Holders who leave their complaints out.
+    pub silent: BTreeSet<Party>,
+    /// How often, of a hundred, a refused record comes before an accepted one.
+    pub noise: u32,
+}
+
+impl Session {
+    /// A committee with its senders drawn by lot; all shares are right.
+    pub fn new(params: Params, rng: &mut Rng) -> Session {
+        let parties: Vec<Party> = (1..=params.n).collect();
+        let holders = rng.some_of(&parties, params.majority());
+        Session {
+            committee: Committee::random(params, rng),
+            run: Run::fresh(),
+            bytes: Vec::new(),
+            dealers: scattered_dealers(&params, rng),
+            responders: rng.some_of(&holders, params.quorum()),
+            holders,
+            wrong: BTreeSet::new(),
+            silent: BTreeSet::new(),
+            noise: 0,
+        }
+    }
+
+    pub fn random(rng: &mut Rng) -> Session {
+        let params = random_params(None, rng);
+        Session::new(params, rng)
+    }
+
+    pub fn params(&self) -> Params {
+        self.committee.params
+    }
+
+    /// So many of the dealers send a wrong share to some of the holders heard.
+    pub fn with_bad_dealers(mut self, count: usize, rng: &mut Rng) -> Session {
+        for dealer in rng.some_of(&self.dealers, count) {
+            let wronged = rng.between(1, 3) as usize;
+            let holders = rng.some_of(&self.holders, wronged);
+            self.wrong.extend(holders.into_iter().map(|holder| (dealer, holder)));
+        }
+        self
+    }
+
+    pub fn with_noise(mut self, percent: u32) -> Session {
+        self.noise = percent;
+        self
+    }
+
+    /// All holders leave their complaints out.
+    pub fn with_silence(mut self) -> Session {
+        self.silent = self.holders.iter().copied().collect();
+        self
+    }
+
+    /// The next good record for the stage of the run.
+    pub fn next_record(&self, rng: &mut Rng) -> Vec<u8> {
+        match self.run.stage {
+            Stage::Fresh => self.committee.su(),
+            Stage::Dealing => self.dealing(self.dealers[self.run.dealings.len()], rng),
+            Stage::Complaining => self.complaint(self.holders[self.run.complaints.len()]),
+            Stage::Challenging => self.committee.ch(rng),
+            Stage::Responding => {
+                self.committee.re(&self.run, self.responders[self.run.responses.len()])
+            }
+            Stage::Done | Stage::Failed => panic!("no record is taken at the end"),
+        }
+    }
+
+    fn dealing(&self, dealer: Party, rng: &mut Rng) -> Vec<u8> {
+        let mut record = self.committee.de(dealer);
+        for &(_, holder) in self.wrong.iter().filter(|pair| pair.0 == dealer) {
+            let off = Scalar::of(i64::from(rng.between(1, 1000)));
+            let sent = self.committee.share(dealer, holder) + off;
+            let place = 4 + 4 * (self.params().quorum() + holder as usize - 1);
+            spoil::put(&mut record, place, sent.number());
+        }
+        record
+    }
+
+    fn complaint(&self, holder: Party) -> Vec<u8> {
+        let mut record = self.committee.ve(&self.run, holder);
+        if self.silent.contains(&holder) {
+            spoil::put(&mut record, 4, 0);
+        }
+        record
+    }
+
+    /// Adds a record that the run takes.
+    pub fn accept(&mut self, record: &[u8]) {
+        assert_eq!(self.run.give(record), Ok(()));
+        self.bytes.extend(record);
+    }
+
+    /// Adds a whole record that the run refuses so.
+    pub fn refuse(&mut self, record: &[u8], refusal: Refusal) {
+        assert_eq!(self.run.give(record), Err(refusal));
+        self.bytes.extend(record);
+    }
+
+    /// Adds a refused record of any kind that the stage allows.
+    pub fn make_noise(&mut self, rng: &mut Rng) {
+        let (record, refusal) = spoil::random_fault(self, rng);
+        self.refuse(&record, refusal);
+    }
+
+    /// Adds a refused record of a tag that the stage does not take.
+    pub fn add_alien(&mut self, rng: &mut Rng) {
+        let record = spoil::random_alien(self, rng);
+        self.refuse(&record, Refusal::Stage);
+    }
+
+    /// Adds the next good record, with refused ones before it as the noise has it.
+    pub fn step(&mut self, rng: &mut Rng) {
+        while rng.chance(self.noise) {
+            self.make_noise(rng);
+        }
+        let record = self.next_record(rng);
+        self.accept(&record);
+    }
+
+    pub fn at_end(&self) -> bool {
+        self.run.stage.takes().is_none()
+    }
+
+    /// Goes on until this stage, or the end.
+    pub fn go_to(&mut self, stage: Stage, rng: &mut Rng) {
+        while self.run.stage < stage && !self.at_end() {
+            self.step(rng);
+        }
+    }
+
+    /// So many records at most.
+    pub fn go_on(&mut self, steps: usize, rng: &mut Rng) {
+        for _ in 0..steps {
+            if !self.at_end() {
+                self.step(rng);
+            }
+        }
+    }
+
+    /// The length of a record of this tag in this committee.
+    pub fn length(&self, tag: Tag) -> usize {
+        tag.length(&self.params())
+    }
+}
+
+/// n-t dealers in random order who are not just 1 to n-t.
+fn scattered_dealers(params: &Params, rng: &mut Rng) -> Vec<Party> {
+    let parties: Vec<Party> = (1..=params.n).collect();
+    loop {
+        let dealers = rng.some_of(&parties, params.majority());
+        if dealers.iter().any(|&dealer| dealer as usize > params.majority()) {
+            return dealers;
+        }
+    }
+}

@@ -1,0 +1,245 @@
+//! Records made to be refused, each with the number it must be refused with.
+
+use super::committee::random_params;
+use super::session::Session;
+use crate::arith::{Element, Scalar, P, Q};
+use crate::params::Party;
+use crate::records::{setup_length, Tag};
+use crate::refusal::Refusal;
+use crate::rng::Rng;
+use crate::run::Stage;
+
+/// Writes a number of four bytes at an offset.
+pub fn put(record: &mut [u8], offset: usize, number: u32) {
+    record[offset..offset + 4].copy_from_slice(&number.to_be_bytes());
+}
+
+fn get(record: &[u8], offset: usize) -> u32 {
+    record[offset..offset + 4].iter().fold(0, |sum, &byte| sum * 256 + u32::from(byte))
+}
+
+/// The refusals that a whole record of the right stage can get, in the order
+/// of document 01.
+fn faults_of(tag: Tag) -> &'static [Refusal] {
+    use Refusal as R;
+    match tag {
+        Tag::Su => &[R::Reserved, R::Bounds, R::Element],
+        Tag::De => &[R::Reserved, R::Party, R::Element, R::Scalar, R::Again],
+        Tag::Ve => &[R::Reserved, R::Party, R::Mask, R::Again, R::FalseBlame],
+        Tag::Ch => &[R::Reserved, R::Scalar],
+        Tag::Re => &[R::Reserved, R::Party, R::Scalar, R::Again, R::Outsider, R::Response],
+    }
+}
+
+/// The faults that can be made at this point of a session, in order.
+fn possible_faults(session: &Session) -> Vec<Refusal> {
+    let tag = session.run.stage.takes().expect("a stage that takes a tag");
+    let possible = |&fault: &Refusal| match fault {
+        Refusal::Again => !senders(session).is_empty(),
+        Refusal::Mask => session.params().n < 32,
+        _ => true,
+    };
+    faults_of(tag).iter().copied().filter(possible).collect()
+}
+
+/// The senders of the accepted records of the present stage.
+fn senders(session: &Session) -> Vec<Party> {
+    let run = &session.run;
+    match run.stage {
+        Stage::Dealing => run.dealings.iter().map(|dealing| dealing.dealer).collect(),
+        Stage::Complaining => run.complaints.iter().map(|row| row.holder).collect(),
+        Stage::Responding => run.responses.iter().map(|row| row.holder).collect(),
+        _ => Vec::new(),
+    }
+}
+
+/// Every set of faults that can be made here, as records of the right stage.
+/// Several faults in one record: the first in order gives the number.
+pub fn all_faults(session: &Session, rng: &mut Rng) -> Vec<(Vec<u8>, Refusal)> {
+    let possible = possible_faults(session);
+    let mut found = Vec::new();
+    for choice in 1..1usize << possible.len() {
+        let chosen = (0..possible.len()).filter(|place| choice >> place & 1 == 1);
+        let faults: Vec<Refusal> = chosen.map(|place| possible[place]).collect();
+        found.push((faulty(session, &faults, rng), faults[0]));
+    }
+    found
+}
+
+/// A record with some fault of the stage, or of a tag that it does not take.
+pub fn random_fault(session: &Session, rng: &mut Rng) -> (Vec<u8>, Refusal) {
+    let alien_only = session.at_end();
+    let alien_possible = session.run.stage != Stage::Fresh;
+    if alien_only || alien_possible && rng.chance(25) {
+        return (random_alien(session, rng), Refusal::Stage);
+    }
+    let possible = possible_faults(session);
+    let mut faults = vec![rng.below(possible.len())];
+    if rng.chance(25) {
+        faults.push(rng.below(possible.len()));
+    }
+    faults.sort();
+    faults.dedup();
+    let faults: Vec<Refusal> = faults.iter().map(|&place| possible[place]).collect();
+    (faulty(session, &faults, rng), faults[0])
+}
+
+/// The next good record with these faults; the later ones are made first, so
+/// that an earlier one is never undone.
+fn faulty(session: &Session, faults: &[Refusal], rng: &mut Rng) -> Vec<u8> {
+    let mut record = session.next_record(rng);
+    for &fault in faults.iter().rev() {
+        make_fault(session, fault, &mut record, rng);
+    }
+    record
+}
+
+fn make_fault(session: &Session, fault: Refusal, record: &mut Vec<u8>, rng: &mut Rng) {
+    let n = session.params().n;
+    match fault {
+        Refusal::Reserved => {
+            let place = reserved_place(record, rng);
+            record[place] = rng.between(1, 255) as u8;
+        }
+        Refusal::Bounds => break_bounds(record, rng),
+        Refusal::Party => record[2] = rng.pick(&[0, n as u8 + 1, 255]),
+        Refusal::Element => break_element(session, record, rng),
+        Refusal::Scalar => break_scalar(session, record, rng),
+        Refusal::Mask => {
+            let bit = rng.between(n, 31);
+            set_bit(record, bit);
+        }
+        Refusal::Again => record[2] = rng.pick(&senders(session)) as u8,
+        Refusal::Outsider => record[2] = rng.pick(&outsiders(session)) as u8,
+        Refusal::FalseBlame => blame_falsely(session, record, rng),
+        Refusal::Response => break_response(record, rng),
+        _ => panic!("not a fault of a whole record"),
+    }
+}
+
+/// Where the reserved byte stands; CH has two.
+fn reserved_place(record: &[u8], rng: &mut Rng) -> usize {
+    match Tag::of(record) {
+        Some(Tag::Su) => 5,
+        Some(Tag::Ch) => rng.pick(&[2, 3]),
+        _ => 3,
+    }
+}
+
+/// Puts the parameters of an SU outside the bounds and keeps its length right.
+fn break_bounds(record: &mut Vec<u8>, rng: &mut Rng) {
+    let (t, a) = (record[3], record[4]);
+    match rng.below(6) {
+        0 => record[2] = 3 * t + 2 * a - 2,
+        1 => record[2] = rng.between(33, 255) as u8,
+        2 => record[2] = 0,
+        3 => record[3] = 0,
+        4 => record[4] = rng.pick(&[0, 16, 255]),
+        _ => record[3] = rng.between(11, 255) as u8,
+    }
+    record.resize(setup_length(record[3]), 1);
+}
+
+/// Puts a number that is no element in place of an element.
+fn break_element(session: &Session, record: &mut [u8], rng: &mut Rng) {
+    let (first, count) = match Tag::of(record) {
+        Some(Tag::Su) => (6, session.params().t as usize + 1),
+        _ => (4, session.params().quorum()),
+    };
+    let offset = first + 4 * edge_or_any(count, rng);
+    let number = not_an_element(get(record, offset), rng);
+    put(record, offset, number);
+}
+
+/// A number that is no element: out of range, congruent to one, or in range.
+fn not_an_element(element: u32, rng: &mut Rng) -> u32 {
+    let others = [0, P, P - 1, 5, element + P, P - element, u32::MAX];
+    let number = rng.pick(&others);
+    assert_eq!(Element::read(number), None);
+    number
+}
+
+/// Puts a number of q or more in place of a scalar.
+fn break_scalar(session: &Session, record: &mut [u8], rng: &mut Rng) {
+    let first = match Tag::of(record) {
+        Some(Tag::De) => 4 + 4 * session.params().quorum(),
+        _ => 4,
+    };
+    let count = (record.len() - first) / 4;
+    let offset = first + 4 * edge_or_any(count, rng);
+    let number = rng.pick(&[Q, Q + 1, get(record, offset) % Q + Q, P, u32::MAX]);
+    put(record, offset, number);
+}
+
+/// The parties that are not in HOLD.
+fn outsiders(session: &Session) -> Vec<Party> {
+    let hold = &session.run.sets.as_ref().expect("the sets are fixed").hold;
+    (1..=session.params().n).filter(|party| !hold.contains(party)).collect()
+}
+
+/// Blames a dealer who has not wronged the sender.
+fn blame_falsely(session: &Session, record: &mut [u8], rng: &mut Rng) {
+    let holder = Party::from(record[2]);
+    let blameless: Vec<Party> =
+        (1..=session.params().n).filter(|&i| !session.run.has_wronged(i, holder)).collect();
+    set_bit(record, rng.pick(&blameless) - 1);
+}
+
+/// Sets a bit of the mask of a VE record.
+fn set_bit(record: &mut [u8], bit: u32) {
+    let mask = get(record, 4) | 1 << bit;
+    put(record, 4, mask);
+}
+
+/// Changes one response number.
+fn break_response(record: &mut [u8], rng: &mut Rng) {
+    let offset = 4 + 4 * edge_or_any((record.len() - 4) / 4, rng);
+    let off = rng.pick(&[1, 2, -1]);
+    shift_number(record, offset, off);
+}
+
+/// Adds to a scalar in a record, modulo q.
+pub fn shift_number(record: &mut [u8], offset: usize, off: i64) {
+    let shifted = Scalar::of(i64::from(get(record, offset)) + off);
+    put(record, offset, shifted.number());
+}
+
+/// A place among so many: often the first or the last.
+fn edge_or_any(count: usize, rng: &mut Rng) -> usize {
+    match rng.below(3) {
+        0 => 0,
+        1 => count - 1,
+        _ => rng.below(count),
+    }
+}
+
+/// A whole record of a tag that the stage does not take.
+pub fn random_alien(session: &Session, rng: &mut Rng) -> Vec<u8> {
+    let taken = session.run.stage.takes();
+    let others: Vec<Tag> = Tag::ALL.into_iter().filter(|&tag| Some(tag) != taken).collect();
+    let tag = rng.pick(&others);
+    alien(session, tag, rng)
+}
+
+/// A whole record of a tag, with whatever contents.
+pub fn alien(session: &Session, tag: Tag, rng: &mut Rng) -> Vec<u8> {
+    match tag {
+        Tag::Su => alien_setup(rng),
+        Tag::De => session.committee.de(rng.between(1, session.params().n)),
+        Tag::Ch => session.committee.ch(rng),
+        _ => {
+            let body = rng.bytes(session.length(tag) - 2);
+            [tag.letters().as_slice(), &body].concat()
+        }
+    }
+}
+
+/// An SU of its own length: within the bounds or with any t.
+fn alien_setup(rng: &mut Rng) -> Vec<u8> {
+    let params = random_params(None, rng);
+    let any_t = rng.pick(&[0, 1, 2, 11, 64, 255]);
+    let t = if rng.chance(60) { params.t as u8 } else { any_t };
+    let mut record = [b'S', b'U', params.n as u8, t, params.a as u8, 0].to_vec();
+    record.resize(setup_length(t), 1);
+    record
+}

@@ -1,0 +1,31 @@
+//! A second implementation of the SPRINT bench, for comparing reports log by log.
+//!
+//! It is written from document 01 alone and shares no code and no algorithm
+//! with the proved core. Where the two could meet, this one is built the plain
+//! way: accepted records stand in order of arrival, sets are sorted sets of
+//! party numbers, and the weights of interpolation come from solving the
+//! Vandermonde system by Gaussian elimination.
+//!
+//! - `arith`: scalars and group elements
+//! - `weights`: interpolation
+//! - `params`, `refusal`, `records`: the parameters, the refusals, the formats
+//! - `run`: the stages
+//! - `log`, `report`: cutting a log, printing its report
+//! - `writers`, `requests`: making records, and the stream that asks for them
+//! - `generator`, `rng`, `coverage`: logs and requests for the comparison
+
+#![forbid(unsafe_code)]
+
+pub mod arith;
+pub mod coverage;
+pub mod generator;
+pub mod log;
+pub mod params;
+pub mod records;
+pub mod refusal;
+pub mod report;
+pub mod requests;
+pub mod rng;
+pub mod run;
+pub mod weights;
+pub mod writers;

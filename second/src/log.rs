@@ -1,0 +1,50 @@
+//! Cutting a log into records and giving them to a run one by one.
+//! Written from document 01 alone.
+
+use crate::records::{setup_length, Tag};
+use crate::refusal::Refusal;
+use crate::run::{Run, Stage};
+
+/// What reading a log leaves behind.
+#[derive(Clone, Debug)]
+pub struct Reading {
+    pub run: Run,
+    /// The refused records, by position in the log counted from 1.
+    pub refused: Vec<(usize, Refusal)>,
+}
+
+/// Reads a log from a fresh run to its end.
+pub fn read_log(log: &[u8]) -> Reading {
+    let mut reading = Reading { run: Run::fresh(), refused: Vec::new() };
+    let mut rest = log;
+    let mut position = 0;
+    while !rest.is_empty() {
+        let (record, after) = cut(&reading.run, rest);
+        position += 1;
+        if let Err(refusal) = reading.run.give(record) {
+            reading.refused.push((position, refusal));
+        }
+        rest = after;
+    }
+    reading
+}
+
+/// The next record and the bytes after it. Where no whole record can be cut,
+/// the rest is one record and nothing comes after.
+fn cut<'a>(run: &Run, rest: &'a [u8]) -> (&'a [u8], &'a [u8]) {
+    match next_length(run, rest) {
+        Some(length) if length <= rest.len() => rest.split_at(length),
+        _ => (rest, &[]),
+    }
+}
+
+/// The length of the record that the bytes begin with. None for an unknown
+/// tag, SU under 6 bytes, and at stage 0 a tag other than SU.
+fn next_length(run: &Run, rest: &[u8]) -> Option<usize> {
+    match Tag::of(rest)? {
+        Tag::Su if rest.len() < 6 => None,
+        Tag::Su => Some(setup_length(rest[3])),
+        _ if run.stage == Stage::Fresh => None,
+        tag => Some(tag.length(&run.params())),
+    }
+}

@@ -1,0 +1,180 @@
+//! The five kinds of record: their tags, their lengths, and reading their
+//! bytes. Reading asks refusals 2 to 8 of the whole record, in the order of
+//! document 01: 2, 3, 4, 5, 7, 6, 8. Written from document 01 alone.
+
+use crate::arith::{Element, Scalar};
+use crate::params::{Params, Party};
+use crate::refusal::Refusal;
+use std::collections::BTreeSet;
+
+/// The first two bytes of a record (document 01: mark).
+#[derive(Clone, Copy, Debug, PartialEq, Eq)]
+pub enum Tag {
+    Su,
+    De,
+    Ve,
+    Ch,
+    Re,
+}
+
+/// SU: the setup.
+#[derive(Clone, Debug, PartialEq, Eq)]
+pub struct Setup {
+    pub params: Params,
+    /// S.
+    pub public_key: Element,
+    /// S_1 to S_t.
+    pub holder_keys: Vec<Element>,
+}
+
+/// DE as it stands in the record.
+pub struct DealingRecord {
+    pub dealer: Party,
+    pub commitments: Vec<Element>,
+    /// The shares of holders 1 to n.
+    pub shares: Vec<Scalar>,
+}
+
+/// VE: the dealers whom a holder blames (document 01: verdict).
+#[derive(Clone, Debug, PartialEq, Eq)]
+pub struct Complaint {
+    pub holder: Party,
+    pub blamed: BTreeSet<Party>,
+}
+
+/// RE: the response numbers of a holder, u from 1 to b.
+#[derive(Clone, Debug, PartialEq, Eq)]
+pub struct Response {
+    pub holder: Party,
+    pub numbers: Vec<Scalar>,
+}
+
+impl Tag {
+    pub const ALL: [Tag; 5] = [Tag::Su, Tag::De, Tag::Ve, Tag::Ch, Tag::Re];
+
+    pub fn letters(self) -> &'static [u8; 2] {
+        match self {
+            Tag::Su => b"SU",
+            Tag::De => b"DE",
+            Tag::Ve => b"VE",
+            Tag::Ch => b"CH",
+            Tag::Re => b"RE",
+        }
+    }
+
+    /// The tag that the bytes begin with.
+    pub fn of(bytes: &[u8]) -> Option<Tag> {
+        Tag::ALL.into_iter().find(|tag| bytes.starts_with(tag.letters()))
+    }
+
+    /// The length of a record of this tag, SU aside: `setup_length` gives that one.
+    pub fn length(self, params: &Params) -> usize {
+        let (n, quorum, b) = (params.n as usize, params.quorum(), params.combinations() as usize);
+        match self {
+            Tag::Su => setup_length(params.t as u8),
+            Tag::De => 4 + 4 * quorum + 4 * n,
+            Tag::Ve => 8,
+            Tag::Ch => 4 + 4 * params.a as usize * b,
+            Tag::Re => 4 + 4 * b,
+        }
+    }
+}
+
+/// The length of SU with this t.
+pub fn setup_length(t: u8) -> usize {
+    4 * usize::from(t) + 10
+}
+
+/// The four-byte numbers, high byte first, that the bytes are made of.
+fn numbers(bytes: &[u8]) -> Vec<u32> {
+    let number = |four: &[u8]| four.iter().fold(0, |sum, &byte| sum * 256 + u32::from(byte));
+    bytes.chunks_exact(4).map(number).collect()
+}
+
+fn elements(bytes: &[u8]) -> Result<Vec<Element>, Refusal> {
+    let read = |number| Element::read(number).ok_or(Refusal::Element);
+    numbers(bytes).into_iter().map(read).collect()
+}
+
+fn scalars(bytes: &[u8]) -> Result<Vec<Scalar>, Refusal> {
+    let read = |number| Scalar::read(number).ok_or(Refusal::Scalar);
+    numbers(bytes).into_iter().map(read).collect()
+}
+
+fn check_length(bytes: &[u8], length: usize) -> Result<(), Refusal> {
+    if bytes.len() == length {
+        Ok(())
+    } else {
+        Err(Refusal::Length)
+    }
+}
+
+fn check_reserved(bytes: &[u8]) -> Result<(), Refusal> {
+    if bytes.iter().all(|&byte| byte == 0) {
+        Ok(())
+    } else {
+        Err(Refusal::Reserved)
+    }
+}
+
+/// A party number of one byte.
+fn party(byte: u8, params: &Params) -> Result<Party, Refusal> {
+    let number = Party::from(byte);
+    if params.has_party(number) {
+        Ok(number)
+    } else {
+        Err(Refusal::Party)
+    }
+}
+
+pub fn read_setup(bytes: &[u8]) -> Result<Setup, Refusal> {
+    if bytes.len() < 6 {
+        return Err(Refusal::Length);
+    }
+    let (n, t, a) = (bytes[2], bytes[3], bytes[4]);
+    check_length(bytes, setup_length(t))?;
+    check_reserved(&bytes[5..6])?;
+    let params = Params::new(n, t, a).ok_or(Refusal::Bounds)?;
+    let public_key = elements(&bytes[6..10])?[0];
+    let holder_keys = elements(&bytes[10..])?;
+    Ok(Setup { params, public_key, holder_keys })
+}
+
+pub fn read_dealing(bytes: &[u8], params: &Params) -> Result<DealingRecord, Refusal> {
+    check_length(bytes, Tag::De.length(params))?;
+    check_reserved(&bytes[3..4])?;
+    let dealer = party(bytes[2], params)?;
+    let (committed, shared) = bytes[4..].split_at(4 * params.quorum());
+    let commitments = elements(committed)?;
+    let shares = scalars(shared)?;
+    Ok(DealingRecord { dealer, commitments, shares })
+}
+
+pub fn read_complaint(bytes: &[u8], params: &Params) -> Result<Complaint, Refusal> {
+    check_length(bytes, Tag::Ve.length(params))?;
+    check_reserved(&bytes[3..4])?;
+    let holder = party(bytes[2], params)?;
+    let mask = numbers(&bytes[4..])[0];
+    let blamed: BTreeSet<Party> = (1..=32).filter(|i| mask >> (i - 1) & 1 == 1).collect();
+    if blamed.iter().any(|&dealer| dealer > params.n) {
+        return Err(Refusal::Mask);
+    }
+    Ok(Complaint { holder, blamed })
+}
+
+/// The challenges e(u,k), one list of a for each u.
+pub fn read_challenges(bytes: &[u8], params: &Params) -> Result<Vec<Vec<Scalar>>, Refusal> {
+    check_length(bytes, Tag::Ch.length(params))?;
+    check_reserved(&bytes[2..4])?;
+    let challenges = scalars(&bytes[4..])?;
+    let rows = challenges.chunks(params.a as usize);
+    Ok(rows.map(<[Scalar]>::to_vec).collect())
+}
+
+pub fn read_response(bytes: &[u8], params: &Params) -> Result<Response, Refusal> {
+    check_length(bytes, Tag::Re.length(params))?;
+    check_reserved(&bytes[3..4])?;
+    let holder = party(bytes[2], params)?;
+    let numbers = scalars(&bytes[4..])?;
+    Ok(Response { holder, numbers })
+}

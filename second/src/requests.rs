@@ -1,0 +1,164 @@
+//! The stream of requests to the writers: its format, reading it, answering it.
+//!
+//! Numbers stand high byte first. One byte gives the kind: 1 SU, 2 DE, 3 VE,
+//! 4 RE. Then:
+//! - SU: n, t, a (1 byte each), s (4), count (2), values of F (4 each), buffer length (2)
+//! - DE: n, t, a, i (1 each), count (2), values of H_i (4 each), buffer length (2)
+//! - VE: log length (4), log, j (1), buffer length (2)
+//! - RE: log length (4), log, j (1), F(j) (4), count (2), shares (4 each), buffer length (2)
+//!
+//! A log is read from a fresh run, and the writer is called on the run it leaves.
+
+use crate::log::read_log;
+use crate::refusal::answer_number;
+use crate::writers::{write_de, write_re, write_su, write_ve};
+
+/// What a buffer is filled with before the writer is called.
+const FILLER: u8 = 0xA5;
+
+/// One call of a writer.
+#[derive(Clone, Debug)]
+pub struct Request {
+    pub call: Call,
+    pub buffer_length: u16,
+}
+
+/// The writer and what it is given besides the buffer.
+#[derive(Clone, Debug)]
+pub enum Call {
+    Su { params: (u8, u8, u8), s: u32, key_values: Vec<u32> },
+    De { params: (u8, u8, u8), i: u8, values: Vec<u32> },
+    Ve { log: Vec<u8>, j: u8 },
+    Re { log: Vec<u8>, j: u8, key_share: u32, shares: Vec<u32> },
+}
+
+impl Request {
+    /// The writer's number and the buffer after the call.
+    pub fn answer(&self) -> (u8, Vec<u8>) {
+        let mut buffer = vec![FILLER; usize::from(self.buffer_length)];
+        let answer = match &self.call {
+            Call::Su { params, s, key_values } => write_su(*params, *s, key_values, &mut buffer),
+            Call::De { params, i, values } => write_de(*params, *i, values, &mut buffer),
+            Call::Ve { log, j } => write_ve(&read_log(log).run, *j, &mut buffer),
+            Call::Re { log, j, key_share, shares } => {
+                write_re(&read_log(log).run, *j, *key_share, shares, &mut buffer)
+            }
+        };
+        (answer_number(answer), buffer)
+    }
+
+    /// The answer as a line: the number, one space, the buffer in hex.
+    pub fn answer_line(&self) -> String {
+        let (number, buffer) = self.answer();
+        let hex: String = buffer.iter().map(|byte| format!("{byte:02x}")).collect();
+        format!("{number} {hex}\n")
+    }
+
+    /// The request as it stands in a stream.
+    pub fn encode(&self) -> Vec<u8> {
+        let mut bytes = self.call.encode();
+        bytes.extend(self.buffer_length.to_be_bytes());
+        bytes
+    }
+}
+
+impl Call {
+    fn encode(&self) -> Vec<u8> {
+        match self {
+            Call::Su { params: (n, t, a), s, key_values } => {
+                [&[1, *n, *t, *a][..], &s.to_be_bytes(), &encode_list(key_values)].concat()
+            }
+            Call::De { params: (n, t, a), i, values } => {
+                [&[2, *n, *t, *a, *i][..], &encode_list(values)].concat()
+            }
+            Call::Ve { log, j } => [&[3][..], &encode_log(log), &[*j]].concat(),
+            Call::Re { log, j, key_share, shares } => {
+                [&[4][..], &encode_log(log), &[*j], &key_share.to_be_bytes(), &encode_list(shares)]
+                    .concat()
+            }
+        }
+    }
+}
+
+fn encode_list(values: &[u32]) -> Vec<u8> {
+    let count = u16::try_from(values.len()).expect("a list fits its count");
+    let mut bytes = count.to_be_bytes().to_vec();
+    bytes.extend(values.iter().flat_map(|value| value.to_be_bytes()));
+    bytes
+}
+
+fn encode_log(log: &[u8]) -> Vec<u8> {
+    let length = u32::try_from(log.len()).expect("a log fits its length");
+    [&length.to_be_bytes(), log].concat()
+}
+
+/// Every request of a stream; none if the stream is broken.
+pub fn decode_stream(stream: &[u8]) -> Option<Vec<Request>> {
+    let mut reader = Reader { rest: stream };
+    let mut requests = Vec::new();
+    while !reader.rest.is_empty() {
+        requests.push(reader.request()?);
+    }
+    Some(requests)
+}
+
+/// The part of a stream not read yet.
+struct Reader<'a> {
+    rest: &'a [u8],
+}
+
+impl<'a> Reader<'a> {
+    fn bytes(&mut self, count: usize) -> Option<&'a [u8]> {
+        let (taken, rest) = self.rest.split_at_checked(count)?;
+        self.rest = rest;
+        Some(taken)
+    }
+
+    fn byte(&mut self) -> Option<u8> {
+        self.bytes(1).map(|bytes| bytes[0])
+    }
+
+    fn two(&mut self) -> Option<u16> {
+        self.bytes(2).map(|bytes| u16::from_be_bytes([bytes[0], bytes[1]]))
+    }
+
+    fn four(&mut self) -> Option<u32> {
+        let bytes = self.bytes(4)?;
+        Some(u32::from_be_bytes([bytes[0], bytes[1], bytes[2], bytes[3]]))
+    }
+
+    fn params(&mut self) -> Option<(u8, u8, u8)> {
+        Some((self.byte()?, self.byte()?, self.byte()?))
+    }
+
+    fn list(&mut self) -> Option<Vec<u32>> {
+        let count = self.two()?;
+        (0..count).map(|_| self.four()).collect()
+    }
+
+    fn log(&mut self) -> Option<Vec<u8>> {
+        let length = self.four()?;
+        self.bytes(length as usize).map(<[u8]>::to_vec)
+    }
+
+    fn call(&mut self) -> Option<Call> {
+        match self.byte()? {
+            1 => {
+                Some(Call::Su { params: self.params()?, s: self.four()?, key_values: self.list()? })
+            }
+            2 => Some(Call::De { params: self.params()?, i: self.byte()?, values: self.list()? }),
+            3 => Some(Call::Ve { log: self.log()?, j: self.byte()? }),
+            4 => Some(Call::Re {
+                log: self.log()?,
+                j: self.byte()?,
+                key_share: self.four()?,
+                shares: self.list()?,
+            }),
+            _ => None,
+        }
+    }
+
+    fn request(&mut self) -> Option<Request> {
+        Some(Request { call: self.call()?, buffer_length: self.two()? })
+    }
+}

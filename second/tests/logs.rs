@@ -1,0 +1,114 @@
+//! Where a log is cut and where reading ends, and the set of generated logs.
+
+use second::coverage::Coverage;
+use second::generator::document::{plain_setup, record, up_to_challenges, worked};
+use second::generator::logs::{all_logs, NamedLog};
+use second::report::{report, LONGEST_LOG};
+use std::sync::OnceLock;
+
+/// The logs of seed 1, made once.
+fn logs() -> &'static [NamedLog] {
+    static LOGS: OnceLock<Vec<NamedLog>> = OnceLock::new();
+    LOGS.get_or_init(|| all_logs(1))
+}
+
+const NO_SETS: &str = "hold -\nqual -\nbad -\n";
+
+#[test]
+fn empty_log() {
+    assert_eq!(report(b""), format!("{NO_SETS}end 0\n"));
+}
+
+#[test]
+fn longest_log_is_read() {
+    assert_eq!(report(&vec![0; LONGEST_LOG]), format!("refuse 1 1\n{NO_SETS}end 0\n"));
+    assert_eq!(report(&vec![0; LONGEST_LOG + 1]), "long\n");
+}
+
+#[test]
+fn reading_ends_at_stage_0_on_another_tag() {
+    for rest in [&b"DE"[..], b"VE\x01\0\0\0\0\0", b"CH\0\0", b"RE\x01"] {
+        assert_eq!(report(rest), format!("refuse 1 11\n{NO_SETS}end 0\n"));
+    }
+}
+
+#[test]
+fn reading_ends_on_an_unknown_tag() {
+    let setup = plain_setup(4, 1, 1);
+    for rest in [&b"S"[..], b"XX", b"su\x04\x01\x01\0"] {
+        let page = format!("refuse 2 1\n{NO_SETS}end 1\n");
+        assert_eq!(report(&[&setup, rest].concat()), page);
+        assert_eq!(report(&[&setup, rest, &setup].concat()), page);
+    }
+}
+
+#[test]
+fn refused_setups_are_passed_over_by_their_own_length() {
+    let log =
+        [plain_setup(4, 255, 1), plain_setup(4, 0, 1), plain_setup(4, 1, 1), plain_setup(8, 2, 1)];
+    let page = format!("refuse 1 4\nrefuse 2 4\nrefuse 4 11\n{NO_SETS}end 1\n");
+    assert_eq!(report(&log.concat()), page);
+}
+
+#[test]
+fn a_cut_record_is_the_last() {
+    let setup = plain_setup(4, 1, 1);
+    for length in 2..setup.len() {
+        assert_eq!(report(&setup[..length]), format!("refuse 1 2\n{NO_SETS}end 0\n"));
+        let late = [&setup, &setup[..length]].concat();
+        assert_eq!(report(&late), format!("refuse 2 11\n{NO_SETS}end 1\n"));
+    }
+    let dealing = record("DE", &[1, 0], &[1, 4, 1, 2, 3, 4]);
+    for length in 2..dealing.len() {
+        let log = [&setup, &dealing[..length]].concat();
+        assert_eq!(report(&log), format!("refuse 2 2\n{NO_SETS}end 1\n"));
+    }
+}
+
+#[test]
+fn reading_goes_on_after_the_end() {
+    let log =
+        [worked(), plain_setup(4, 1, 1), record("VE", &[1, 0], &[0]), b"RE".to_vec()].concat();
+    let page = report(&log);
+    assert!(page.starts_with("refuse 11 11\nrefuse 12 11\nrefuse 13 11\nhold 2 3 4\n"));
+    assert!(page.ends_with("end 5\n"));
+}
+
+#[test]
+fn a_refused_complaint_blames_nobody() {
+    let start = &up_to_challenges()[..14 + 3 * 28];
+    let rows =
+        [(2, 4), (2, 0), (3, 8), (3, 0), (4, 0)].map(|(j, mask)| record("VE", &[j, 0], &[mask]));
+    let page = "refuse 5 13\nrefuse 7 13\nhold 2 3 4\nqual 1 2 3\nbad -\nend 3\n";
+    assert_eq!(report(&[start, &rows.concat()].concat()), page);
+}
+
+#[test]
+fn generated_logs_cover_everything() {
+    assert!(logs().len() >= 320);
+    let mut coverage = Coverage::default();
+    for log in logs() {
+        let meant_long = log.kind.starts_with("size-65537") || log.kind.starts_with("size-over");
+        assert_eq!(log.bytes.len() > LONGEST_LOG, meant_long, "{}", log.kind);
+        coverage.add(&log.bytes);
+    }
+    assert_eq!(coverage.missing(), Vec::<String>::new());
+}
+
+#[test]
+fn large_committees_are_completed() {
+    for kind in ["complete-32-1-15", "complete-32-10-1", "full-packing", "size-ends-done"] {
+        for log in logs().iter().filter(|log| log.kind.starts_with(kind)) {
+            assert!(report(&log.bytes).ends_with("end 5\n"), "{kind}");
+        }
+    }
+}
+
+#[test]
+fn the_same_seed_gives_the_same_logs() {
+    let again = all_logs(1);
+    assert_eq!(logs().len(), again.len());
+    for (one, other) in logs().iter().zip(&again) {
+        assert!(one.kind == other.kind && one.bytes == other.bytes);
+    }
+}
