@@ -16,7 +16,10 @@ use Rattle.records.specs.Tags.{tagOf, setupLength, dealingLength, complaintLeng
 use Rattle.records.specs.Refusals.{setupRefusal, sharesFrom, dealingRefusal, maskFits, complaintRefusal, challengesRefusal, responseRefusal}
 use Rattle.run.specs.declared.Run.{Run}
 use Rattle.protocol.specs.Transcript.{dealingAt, validShare, coefficient, keyAt, combinedAt, nonce, challengeAt, responseAt, passes}
-use Rattle.run.specs.Runs.{noSetup, noDealings, noComplaints, noResponses, noScalars, begun, fresh, wellFormed, stageOf, base, cell, transcriptOf, setsOf, phiOf, kept}
+use Rattle.protocol.specs.Arrays.{base, cell}
+use Rattle.run.specs.Runs.{noSetup, noDealings, noComplaints, noResponses, noScalars, begun, fresh, wellFormed, stageOf, transcriptOf, qualOf, setsOf, phiOf, kept}
+use Rattle.log.specs.Cutting.{lengthAt, lengthOf, whole, cutFrom, recordsOf, runOf}
+use Rattle.log.specs.Report.{decimalTo, decimal, field, fields, line, refusalLines, setText, setLine, signatureLines, closing, reportOf}
 use Rattle.run.specs.Steps.{orNext, setupOf, afterSetup, dealingNumber, wrongShares, withDealing, afterDealing, mayBlame, complaintNumber, withComplaint, complaintStage, afterComplaint, challengesNumber, afterChallenges, responseNumber, withResponse, withRow, finished, afterResponse, taken, stepAt, stepOf, afterFrom, after}
 
 -- ---- records
@@ -60,6 +63,13 @@ held x y m = dealt x y ++ (complaint 2 m ∷ complaint 3 0 ∷ complaint 4 0 ∷
 challenged : ℕ → ℕ → ℕ → List (List ℕ)
 challenged x y m = held x y m ++ (challenges (1 ∷ 2 ∷ []) ∷ [])
 
+worked : List (List ℕ)
+worked = challenged 1 4 0 ++ (response 2 (10 ∷ 22 ∷ []) ∷ response 3 (13 ∷ 28 ∷ []) ∷ [])
+
+joined : List (List ℕ) → List ℕ
+joined [] = []
+joined (s ∷ l) = s ++ joined l
+
 -- ---- what is said of them
 
 -- HOLD, QUAL, BAD; R and φ of (1,1) and (2,1); the stage
@@ -78,13 +88,27 @@ test b = pick b (1 ∷ []) (0 ∷ [])
 keys : ℕ → List ℕ
 keys n = 4 ∷ filled n 16
 
+-- the page of a list of records, end to end
+page : List (List ℕ) → List (List ℕ)
+page l = reportOf (joined l) ∷ []
+
+-- document 01's page, line by line
+workedPage : List ℕ
+workedPage =
+    104 ∷ 111 ∷ 108 ∷ 100 ∷ 32 ∷ 50 ∷ 32 ∷ 51 ∷ 32 ∷ 52 ∷ 10
+    ∷ 113 ∷ 117 ∷ 97 ∷ 108 ∷ 32 ∷ 49 ∷ 32 ∷ 50 ∷ 32 ∷ 51 ∷ 10
+    ∷ 98 ∷ 97 ∷ 100 ∷ 32 ∷ 45 ∷ 10
+    ∷ 115 ∷ 105 ∷ 103 ∷ 32 ∷ 49 ∷ 32 ∷ 49 ∷ 32 ∷ 54 ∷ 52 ∷ 32 ∷ 52 ∷ 10
+    ∷ 115 ∷ 105 ∷ 103 ∷ 32 ∷ 50 ∷ 32 ∷ 49 ∷ 32 ∷ 54 ∷ 53 ∷ 53 ∷ 51 ∷ 54 ∷ 32 ∷ 49 ∷ 48 ∷ 10
+    ∷ 101 ∷ 110 ∷ 100 ∷ 32 ∷ 53 ∷ 10 ∷ []
+
 -- ---- the cases: what is computed, and what document 01 says
 
 cases : List (List (List ℕ) × List (List ℕ))
 cases =
-    -- (A) the worked page
-    (said (after (challenged 1 4 0 ++ (response 2 (10 ∷ 22 ∷ []) ∷ response 3 (13 ∷ 28 ∷ []) ∷ []))),
-    (2 ∷ 3 ∷ 4 ∷ []) ∷ (1 ∷ 2 ∷ 3 ∷ []) ∷ [] ∷ (64 ∷ 4 ∷ []) ∷ (65536 ∷ 10 ∷ []) ∷ (5 ∷ []) ∷ [])
+    -- (A) the worked page, and what the run says
+    (page worked, workedPage ∷ [])
+    ∷ (said (after worked), (2 ∷ 3 ∷ 4 ∷ []) ∷ (1 ∷ 2 ∷ 3 ∷ []) ∷ [] ∷ (64 ∷ 4 ∷ []) ∷ (65536 ∷ 10 ∷ []) ∷ (5 ∷ []) ∷ [])
     -- (B) right after CH, RE 1 with 0,0 refused 14; (C) RE 2 with 11,22 refused 15
     ∷ (answer (challenged 1 4 0) (response 1 (0 ∷ 0 ∷ [])) ∷ answer (challenged 1 4 0) (response 2 (11 ∷ 22 ∷ [])) ∷ [],
     (14 ∷ []) ∷ (15 ∷ []) ∷ [])
@@ -110,5 +134,5 @@ cases =
 
 -- every case comes out as document 01 says
 computed : map (λ c. c .0) cases ≡ map (λ c. c .1) cases
-unfolding four fours setup dealing complaint challenges response su dealt held challenged said answer test cases fold allTo require stored filled bit has insert minus maskOf membersFrom q P powerTo powerOf isScalar isElement reduced plus F.minus times inverseTo inverseOf inverse power product raise point factor weight scalarAt elementAt inBounds quorum batch byteAt numberAt word tagOf setupLength dealingLength complaintLength challengesLength responseLength setupRefusal sharesFrom dealingRefusal maskFits complaintRefusal challengesRefusal responseRefusal dealingAt validShare coefficient keyAt combinedAt nonce challengeAt responseAt passes noSetup noDealings noComplaints noResponses noScalars begun fresh wellFormed stageOf base cell transcriptOf setsOf phiOf kept orNext setupOf afterSetup dealingNumber wrongShares withDealing afterDealing mayBlame complaintNumber withComplaint complaintStage afterComplaint challengesNumber afterChallenges responseNumber withResponse withRow finished afterResponse taken stepAt stepOf afterFrom after
+unfolding worked joined page workedPage lengthAt lengthOf whole cutFrom recordsOf runOf decimalTo decimal field fields line refusalLines setText setLine signatureLines closing reportOf qualOf four fours setup dealing complaint challenges response su dealt held challenged said answer test cases fold allTo require stored filled bit has insert minus maskOf membersFrom q P powerTo powerOf isScalar isElement reduced plus F.minus times inverseTo inverseOf inverse power product raise point factor weight scalarAt elementAt inBounds quorum batch byteAt numberAt word tagOf setupLength dealingLength complaintLength challengesLength responseLength setupRefusal sharesFrom dealingRefusal maskFits complaintRefusal challengesRefusal responseRefusal dealingAt validShare coefficient keyAt combinedAt nonce challengeAt responseAt passes noSetup noDealings noComplaints noResponses noScalars begun fresh wellFormed stageOf base cell transcriptOf setsOf phiOf kept orNext setupOf afterSetup dealingNumber wrongShares withDealing afterDealing mayBlame complaintNumber withComplaint complaintStage afterComplaint challengesNumber afterChallenges responseNumber withResponse withRow finished afterResponse taken stepAt stepOf afterFrom after
 computed = refl

@@ -477,7 +477,7 @@ impl Run {
     }
 
     // QUAL: the accepted dealers that nobody blames.
-    fn qual(self) -> u64
+    pub fn qual(self) -> u64
         ensures { λ r. ⌜ r ≡ qualOf self ⌝ }
     {
         sets::minus(self.dealings.dealers, self.complaints.blamed)

@@ -1,0 +1,46 @@
+-- A log as records end to end (document 01, "A log is ..").
+use Prim.Native.Nat.{ℕ, zero, suc}
+use mathlib.Core.Bool.{Bool, _&&_}
+use mathlib.Core.List.{List, [], _∷_}
+use lib.ListN.{length, take, drop}
+use lib.Dec.{eqb, leb}
+use Rattle.lists.specs.Tests.{pick}
+use Rattle.records.specs.Bytes.{byteAt}
+use Rattle.records.specs.Tags.{Tag, SU, DE, VE, CH, RE, unknown, tagOf, setupLength, dealingLength, complaintLength, challengesLength, responseLength}
+use Rattle.run.specs.declared.Run.{Run}
+use Rattle.run.specs.Runs.{fresh}
+use Rattle.run.specs.Steps.{stepOf, after}
+
+-- the length of a record by its tag: SU's from its own t, the others' from the run's parameters; 0 where it has none, since the tag is unknown,
+-- SU is cut before its t, or the run has no setup yet
+unfoldable pub lengthAt : Tag → Run → List ℕ → ℕ
+lengthAt SU r s = pick (leb 6 (length s)) (setupLength (byteAt s 3)) 0
+lengthAt DE r s = pick (eqb (r .stage) 0) 0 (dealingLength (r .setup .n) (r .setup .t) (r .setup .a))
+lengthAt VE r s = pick (eqb (r .stage) 0) 0 (complaintLength (r .setup .n))
+lengthAt CH r s = pick (eqb (r .stage) 0) 0 (challengesLength (r .setup .n) (r .setup .t) (r .setup .a))
+lengthAt RE r s = pick (eqb (r .stage) 0) 0 (responseLength (r .setup .n) (r .setup .t))
+lengthAt unknown r s = 0
+
+unfoldable pub lengthOf : Run → List ℕ → ℕ
+lengthOf r s = lengthAt (tagOf s) r s
+
+-- the bytes begin with a whole record
+unfoldable pub whole : Run → List ℕ → Bool
+whole r s = leb 1 (lengthOf r s) && leb (lengthOf r s) (length s)
+
+-- The records of what is left of a log, given to r in turn. A record is passed over by its length, accepted or refused; bytes that do not begin
+-- with a whole record are the last. f bounds the records.
+unfoldable pub cutFrom : ℕ → Run → List ℕ → List (List ℕ)
+cutFrom zero r s = []
+cutFrom (suc f) r s =
+    pick (eqb (length s) 0) []
+    (pick (whole r s)
+    (take (lengthOf r s) s ∷ cutFrom f (stepOf r (take (lengthOf r s) s) .run) (drop (lengthOf r s) s))
+    (s ∷ []))
+
+unfoldable pub recordsOf : List ℕ → List (List ℕ)
+recordsOf log = cutFrom (length log) fresh log
+
+-- the run after a log is the run after the list of its records
+unfoldable pub runOf : List ℕ → Run
+runOf log = after (recordsOf log)

@@ -1,0 +1,19 @@
+-- `share_fits` meets its contract. Assumes nothing.
+use mathlib.Core.Path.{ap₂}
+use lib.Dec.{eqb}
+use Rattle.field.specs.declared.Element.{Element}
+use borrow.Author.Needs.{needs}
+use Rattle.protocol.proofs.share_fits.Statement.{statement}
+use Rattle.protocol.proofs.share_fits.Tie as tie
+
+product-requires : tie.Need-product-requires
+product-requires c κs = search needs
+
+pow-requires : tie.Need-pow-requires
+pow-requires c κs = search needs
+
+returns : tie.Need-returns
+returns c = ap₂ (λ (v w : Element). eqb (v .0) (w .0)) (c .before .before .pow .ensures) (c .before .before .before .product .ensures)
+
+pub share-fits-spec : {M : Type 1} → statement M
+share-fits-spec = tie.close (tie.spec product-requires pow-requires returns)

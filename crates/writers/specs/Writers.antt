@@ -1,0 +1,92 @@
+-- What an honest party's records are, and when a writer refuses (document 01, "The writers make ..").
+use Prim.Native.Nat.{ℕ, _+_, _-_}
+use mathlib.Core.Bool.{Bool, not, _&&_, _||_}
+use mathlib.Core.List.{List, [], _∷_, _++_}
+use lib.ListN.{length, getD}
+use lib.Dec.{eqb}
+use Rattle.algebra.specs.Fold.{fold}
+use Rattle.lists.specs.Tests.{pick, allTo, require}
+use Rattle.sets.specs.Masks.{has, maskOf}
+use Rattle.field.specs.declared.Scalar.{Scalar}
+use Rattle.field.specs.Definitions.{scalar, generator, isScalar, plus, times, raise}
+use Rattle.interpolation.specs.Definitions.{party, committedPoint, scalarAt}
+use Rattle.records.specs.Parameters.{inBounds, quorum, batch, isParty}
+use Rattle.records.specs.Tags.{setupLength, dealingLength, complaintLength, responseLength}
+use Rattle.protocol.specs.Transcript.{coefficient, challengeAt}
+use Rattle.run.specs.declared.Run.{Run}
+use Rattle.run.specs.Runs.{stageOf, transcriptOf}
+use Rattle.run.specs.Steps.{mayBlame}
+use Rattle.writers.specs.Bytes.{four, fours}
+
+-- 4^x, as the number that is written
+abbrev pub powerOfFour : ℕ → ℕ
+powerOfFour x = raise generator (scalar x) .0
+
+-- ---- SU, from n, t, a, s and F(1) to F(t)
+
+unfoldable pub setupRefused : ℕ → ℕ → ℕ → ℕ → List ℕ → ℕ → ℕ
+setupRefused n t a s shares room =
+    require (inBounds n t a) 4
+    (require (eqb (length shares) t) 10
+    (require (isScalar s && allTo t (λ j. isScalar (getD shares j 0))) 6
+    (require (eqb room (setupLength t)) 9 0)))
+
+unfoldable pub setupBytes : ℕ → ℕ → ℕ → ℕ → List ℕ → List ℕ
+setupBytes n t a s shares =
+    83 ∷ 85 ∷ n ∷ t ∷ a ∷ 0 ∷ (four (powerOfFour s) ++ fours t (λ j. powerOfFour (getD shares j 0)))
+
+-- ---- DE, from n, t, a, i and the values of H_i at its committed points
+
+unfoldable pub dealingRefused : ℕ → ℕ → ℕ → ℕ → List ℕ → ℕ → ℕ
+dealingRefused n t a i values room =
+    require (inBounds n t a) 4
+    (require (isParty n i) 5
+    (require (eqb (length values) (quorum t a)) 10
+    (require (allTo (quorum t a) (λ v. isScalar (getD values v 0))) 6
+    (require (eqb room (dealingLength n t a)) 9 0))))
+
+-- H_i(j), from its values at the committed points
+unfoldable pub shareFor : ℕ → ℕ → List ℕ → ℕ → Scalar
+shareFor t a values j = scalarAt (committedPoint a) (quorum t a) (λ v. scalar (getD values v 0)) (party j)
+
+unfoldable pub dealingBytes : ℕ → ℕ → ℕ → ℕ → List ℕ → List ℕ
+dealingBytes n t a i values =
+    68 ∷ 69 ∷ i ∷ 0
+    ∷ (fours (quorum t a) (λ v. powerOfFour (getD values v 0)) ++ fours n (λ j. shareFor t a values (j + 1) .0))
+
+-- ---- VE, from a run and j
+
+unfoldable pub complaintRefused : Run → ℕ → ℕ → ℕ
+complaintRefused r j room =
+    require (eqb (stageOf r) 2) 11
+    (require (isParty (r .setup .n) j) 5
+    (require (eqb room (complaintLength (r .setup .n))) 9 0))
+
+-- it blames exactly the accepted dealers whose share for j is not valid
+unfoldable pub complaintBytes : Run → ℕ → List ℕ
+complaintBytes r j = 86 ∷ 69 ∷ j ∷ 0 ∷ four (maskOf (r .setup .n) (mayBlame (r .dealings) j))
+
+-- ---- RE, from a run, j, F(j) and n shares by dealer number, of which only those of QUAL are read or tested for range
+
+unfoldable pub responseRefused : Run → ℕ → ℕ → List ℕ → ℕ → ℕ
+responseRefused r j key shares room =
+    require (eqb (stageOf r) 4) 11
+    (require (isParty (r .setup .n) j) 5
+    (require (has (r .complaints .holders) j) 14
+    (require (eqb (length shares) (r .setup .n)) 10
+    (require (isScalar key && allTo (r .setup .n) (λ i. not (transcriptOf r .qual (i + 1)) || isScalar (getD shares i 0))) 6
+    (require (eqb room (responseLength (r .setup .n) (r .setup .t))) 9 0)))))
+
+-- H_u(j): the sum over QUAL of i^(u-1) × H_i(j)
+unfoldable pub combinedShare : ℕ → (ℕ → Bool) → List ℕ → ℕ → Scalar
+combinedShare n qual shares u =
+    fold plus (scalar 0) n (λ i. pick (qual (i + 1)) (times (coefficient (i + 1) u) (scalar (getD shares i 0))) (scalar 0))
+
+-- H_u(j) + E_u(j) × F(j)
+unfoldable pub responseFor : Run → ℕ → ℕ → List ℕ → ℕ → Scalar
+responseFor r j key shares u =
+    plus (combinedShare (r .setup .n) (transcriptOf r .qual) shares u) (times (challengeAt (transcriptOf r) u (party j)) (scalar key))
+
+unfoldable pub responseBytes : Run → ℕ → ℕ → List ℕ → List ℕ
+responseBytes r j key shares =
+    82 ∷ 69 ∷ j ∷ 0 ∷ fours (batch (r .setup .n) (r .setup .t)) (λ u. responseFor r j key shares (u + 1) .0)
