@@ -1,0 +1,147 @@
+-- What a run keeps is what its accepted records say: the invariant of a list, part by part, and what follows at once. Assumes nothing.
+use mathlib.Core.Path.{_≡_, sym, ap, subst, _∙_}
+use mathlib.Core.Bool.{true, and-eq-true-iff}
+use mathlib.Core.List.{List, []}
+use Prim.Native.Nat.{ℕ, _+_, _*_, _-_, _/_, _%_, _≤_, _<_}
+use native.Mathlib.Omega.{arith}
+use lib.ListN.{length, getD}
+use lib.Dec.{eqb}
+use borrow.Author.Tests.{eqb-true, eqb-false, le-leb}
+use Rattle.lists.specs.Tests.{pick, pick-case}
+use Rattle.lists.specs.Members.{All}
+use Rattle.lists.specs.Stores.{stored-from, length-filled}
+use Rattle.sets.specs.Masks.{has}
+use Rattle.field.specs.declared.Scalar.{Scalar}
+use Rattle.field.specs.Definitions.{scalar, element, IsElement}
+use Rattle.protocol.specs.Transcript.{Transcript, passes}
+use Rattle.records.specs.Parameters.{quorum, batch}
+use Rattle.records.specs.Bytes.{byteAt, numberAt, word, sender}
+use Rattle.records.specs.Tags.{Tag, SU, DE, VE, CH, RE}
+use Rattle.records.specs.Refusals.{setupRefusal, dealingRefusal}
+use Rattle.records.specs.Laws.{Bounds, bounds-test, key-max, setup-passed, dealing-passed}
+use Rattle.run.specs.declared.Setup.{Setup}
+use Rattle.run.specs.declared.Dealings.{Dealings}
+use Rattle.run.specs.declared.Complaints.{Complaints}
+use Rattle.run.specs.declared.Responses.{Responses}
+use Rattle.run.specs.declared.Run.{Run}
+use Rattle.run.specs.Runs.{noSetup, base, wellFormed, stageOf, transcriptOf, phiOf}
+use Rattle.run.specs.Steps.{setupOf, wrongShares}
+use Rattle.promises.specs.Lists.{ofTag, first, some, sentBy, recordOf}
+use Rattle.promises.specs.ListLaws.{recordOf-all}
+use Rattle.promises.specs.Senders.{Senders, Slots, senders-max}
+
+-- ---- the parts
+
+-- s is the accepted SU
+pub record SetupOf (setup : Setup) (s : List ℕ) : Type 0 where
+  pub setup-is : setup ≡ setupOf s
+  pub admitted : setupRefusal s ≡ 0
+
+-- l holds the accepted DE
+pub record DealingsOf (setup : Setup) (d : Dealings) (l : List (List ℕ)) : Type 0 where
+  pub commitments-size : length (d .commitments) ≡ 1024
+  pub wrong-size : length (d .wrong) ≡ 32
+  pub senders : Senders (setup .n) (d .count) (d .dealers) l
+  pub slots : Slots element (quorum (setup .t) (setup .a)) (d .commitments) l
+  pub wrong-is : (i : ℕ) → 0 < i → sentBy i l ≡ true → getD (d .wrong) (i - 1) 0 ≡ wrongShares setup (recordOf i l)
+  pub admitted : All (λ s. dealingRefusal (setup .n) (setup .t) (setup .a) s ≡ 0) l
+
+-- l holds the accepted VE; only accepted dealers are blamed
+pub record ComplaintsOf (setup : Setup) (dealers : ℕ) (c : Complaints) (l : List (List ℕ)) : Type 0 where
+  pub senders : Senders (setup .n) (c .count) (c .holders) l
+  pub blamed-is : (i : ℕ) → has (c .blamed) i ≡ some (λ s. has (numberAt s 4) i) l
+  pub founded : (i : ℕ) → has (c .blamed) i ≡ true → has dealers i ≡ true
+
+-- s is the accepted CH; empty before there is one, and then every number is 0
+pub record ChallengesOf (setup : Setup) (kept : List Scalar) (s : List ℕ) : Type 0 where
+  pub size : length kept ≡ 512
+  pub challenge-is : (x : ℕ) → x < setup .a * batch (setup .n) (setup .t) → getD kept x (scalar 0) ≡ scalar (word s 4 x)
+
+-- l holds the accepted RE
+pub record ResponsesOf (setup : Setup) (p : Responses) (l : List (List ℕ)) : Type 0 where
+  pub numbers-size : length (p .numbers) ≡ 1024
+  pub senders : Senders (setup .n) (p .count) (p .responders) l
+  pub slots : Slots scalar (batch (setup .n) (setup .t)) (p .numbers) l
+
+-- a response row of a member of HOLD, whose numbers pass
+pub record Row (w : Transcript) (holders : ℕ) (s : List ℕ) : Type 0 where
+  pub held : has holders (sender s) ≡ true
+  pub passing : (x : ℕ) → x < batch (w .n) (w .t) → passes w (x + 1) (sender s) (scalar (word s 4 x)) ≡ true
+
+-- need rows are there, and every φ
+pub record Done (r : Run) : Type 0 where
+  pub full : r .responses .count ≡ quorum (r .setup .t) (r .setup .a)
+  pub signatures : (x : ℕ) → x < r .setup .a * batch (r .setup .n) (r .setup .t) → getD (r .signatures) x (scalar 0) ≡ phiOf r (x / r .setup .a + 1) (x % r .setup .a + 1)
+
+-- what the stage says; f holds the accepted records of each tag
+pub record AtStage (stage : ℕ) (r : Run) (f : Tag → List (List ℕ)) : Type 0 where
+  pub stage-pos : 0 < stage
+  pub stage-max : stage ≤ 6
+  pub early : stage < 4 → (f CH ≡ []) × (f RE ≡ [])
+  pub done : stage ≡ 5 → Done r
+
+-- ---- the invariant
+
+-- of a run past stage 0
+pub record Live (r : Run) (f : Tag → List (List ℕ)) : Type 0 where
+  pub setup : SetupOf (r .setup) (first (f SU))
+  pub dealings : DealingsOf (r .setup) (r .dealings) (f DE)
+  pub complaints : ComplaintsOf (r .setup) (r .dealings .dealers) (r .complaints) (f VE)
+  pub challenges : ChallengesOf (r .setup) (r .challenges) (first (f CH))
+  pub responses : ResponsesOf (r .setup) (r .responses) (f RE)
+  pub rows : All (Row (transcriptOf r) (r .complaints .holders)) (f RE)
+  pub signatures-size : length (r .signatures) ≡ 512
+  pub stage : AtStage (r .stage) r f
+
+-- of a run and the accepted records of its list
+pub record Invariant (r : Run) (l : List (List ℕ)) : Type 0 where
+  pub start : r .stage ≡ 0 → l ≡ []
+  pub live : 0 < r .stage → Live r (λ g. ofTag g l)
+
+-- ---- what follows
+
+module _ (setup : Setup) (s : List ℕ) (h : SetupOf setup s) where
+  pub setup-bounds : Bounds (setup .n) (setup .t) (setup .a)
+  unfolding setupOf
+  setup-bounds = subst (λ (z : Setup). Bounds (z .n) (z .t) (z .a)) (sym (h .setup-is)) (setup-passed s (h .admitted) .bounds)
+
+  -- S is key 0, and S_j key j
+  pub key-is : (j : ℕ) → j ≤ setup .t → getD (setup .key) j (element 0) ≡ element (word s 6 j)
+  unfolding setupOf noSetup
+  key-is j l =
+      ap (λ (z : Setup). getD (z .key) j (element 0)) (h .setup-is)
+      ∙ stored-from _ (byteAt s 3 + 1) _ (element 0) (omega (arith, length-filled 32 (element 0), key-max setup-bounds, ap (λ (z : Setup). z .t) (h .setup-is))) j
+      (omega (arith, ap (λ (z : Setup). z .t) (h .setup-is)))
+
+  pub key-element : (j : ℕ) → j ≤ setup .t → IsElement (getD (setup .key) j (element 0))
+  unfolding setupOf
+  key-element j l = rw (key-is j l) (setup-passed s (h .admitted) .elements j (omega (arith, ap (λ (z : Setup). z .t) (h .setup-is))))
+
+pub commitment-element : (setup : Setup) (d : Dealings) (l : List (List ℕ)) → DealingsOf setup d l
+    → (i v : ℕ) → 0 < i → has (d .dealers) i ≡ true → v < quorum (setup .t) (setup .a) → IsElement (getD (d .commitments) (base i + v) (element 0))
+commitment-element setup d l h i v p e k =
+    rw (h .slots i v p k)
+    (dealing-passed (setup .n) (setup .t) (setup .a) (recordOf i l) (recordOf-all i _ l (h .admitted) (sym (h .senders .mask-is i) ∙ e)) .elements v k)
+
+module _ (r : Run) (f : Tag → List (List ℕ)) (h : Live r f) where
+  pub live-bounds : Bounds (r .setup .n) (r .setup .t) (r .setup .a)
+  live-bounds = setup-bounds (r .setup) (first (f SU)) (h .setup)
+
+  pub live-well-formed : wellFormed r ≡ true
+  unfolding wellFormed
+  live-well-formed =
+      and-eq-true-iff _ _ .1 (
+        bounds-test _ _ _ live-bounds,
+        and-eq-true-iff _ _ .1 (
+          le-leb _ _ (senders-max (h .dealings .senders)),
+          and-eq-true-iff _ _ .1
+              (le-leb _ _ (senders-max (h .complaints .senders)), le-leb _ _ (senders-max (h .responses .senders))),
+        ),
+      )
+
+-- its stage counts as it stands
+pub stage-of : (r : Run) (l : List (List ℕ)) → Invariant r l → stageOf r ≡ r .stage
+unfolding stageOf
+stage-of r l h =
+    pick-case (λ z. z ≡ r .stage) (eqb (r .stage) 0) 0 (pick (wellFormed r) (r .stage) 6) (λ e. sym (eqb-true (r .stage) 0 e))
+    (λ e. rw (live-well-formed r _ (h .live (omega (arith, eqb-false (r .stage) 0 e)))))

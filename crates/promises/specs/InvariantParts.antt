@@ -1,0 +1,172 @@
+-- The parts of the invariant with no record, and with one more: what an accepted DE, VE and RE tells, and what it adds. Assumes nothing.
+use mathlib.Core.Path.{_≡_, refl, sym, ap, _∙_}
+use mathlib.Core.Bool.{Bool, true, false, not, _||_}
+use mathlib.Core.List.{List, []}
+use Prim.Native.Nat.{ℕ, _+_, _-_, _^_, _≤_, _<_}
+use native.Mathlib.Omega.{arith}
+use native.Mathlib.Decide.{decLt}
+use lib.ListN.{getD, set, length-set}
+use lib.Seq.{getD-set-same, getD-set-other}
+use lib.Dec.{eqb, leb}
+use borrow.Author.Tests.{eqb-true, eqb-false, leb-true}
+use Rattle.lists.specs.Tests.{pick, allTo, all-at, no-both, not-yes, and-left, passed}
+use Rattle.lists.specs.Members.{all-snoc}
+use Rattle.lists.specs.Stores.{length-stored, length-filled}
+use Rattle.sets.specs.Masks.{has, insert}
+use Rattle.sets.specs.MaskLaws.{has-zero, has-or, has-insert, has-above}
+use Rattle.field.specs.Definitions.{scalar, element}
+use Rattle.records.specs.Parameters.{quorum, batch}
+use Rattle.records.specs.Bytes.{numberAt, sender}
+use Rattle.records.specs.Refusals.{dealingRefusal}
+use Rattle.records.specs.Laws.{Bounds, quorum-max, batch-max, dealing-passed, complaint-passed, response-passed}
+use Rattle.run.specs.declared.Setup.{Setup}
+use Rattle.run.specs.declared.Dealings.{Dealings}
+use Rattle.run.specs.declared.Complaints.{Complaints}
+use Rattle.run.specs.declared.Responses.{Responses}
+use Rattle.run.specs.declared.Run.{Run}
+use Rattle.run.specs.Runs.{noDealings, noComplaints, noResponses, transcriptOf}
+use Rattle.run.specs.Steps.{orNext, dealingNumber, wrongShares, withDealing, mayBlame, complaintNumber, withComplaint, responseNumber, withResponse}
+use Rattle.promises.specs.Lists.{some, sentBy, recordOf}
+use Rattle.promises.specs.ListLaws.{snoc, some-snoc, sentBy-other}
+use Rattle.promises.specs.Senders.{New, senders-none, slots-none, senders-more, recordOf-case, slots-more}
+use Rattle.promises.specs.Invariant.{DealingsOf, ComplaintsOf, ResponsesOf, Row}
+
+-- no refusal: none before, and none after
+or-next : (k next : ℕ) → orNext k next ≡ 0 → (k ≡ 0) × (next ≡ 0)
+unfolding orNext
+or-next k next e = go (eqb k 0) refl e
+  where
+    go : (b : Bool) → eqb k 0 ≡ b → pick b next k ≡ 0 → (k ≡ 0) × (next ≡ 0)
+    go true d e = (eqb-true k 0 d, e)
+    go false d e = absurd (eqb-false k 0 d e)
+
+-- ---- no record
+
+pub no-dealings : (setup : Setup) → DealingsOf setup noDealings []
+unfolding noDealings some
+no-dealings setup =
+    record {
+      commitments-size = length-filled 1024 (element 0);
+      wrong-size = length-filled {A = ℕ} 32 0;
+      senders = senders-none (setup .n);
+      slots = slots-none element (quorum (setup .t) (setup .a)) 1024;
+      wrong-is = λ i p e. absurd (no-both refl (sym e));
+      admitted = tt;
+    }
+
+pub no-complaints : (setup : Setup) (dealers : ℕ) → ComplaintsOf setup dealers noComplaints []
+unfolding noComplaints some
+no-complaints setup dealers = record { senders = senders-none (setup .n); blamed-is = has-zero; founded = λ i e. absurd (no-both e (has-zero i)) }
+
+pub no-responses : (setup : Setup) → ResponsesOf setup noResponses []
+unfolding noResponses
+no-responses setup =
+    record {
+      numbers-size = length-filled 1024 (scalar 0);
+      senders = senders-none (setup .n);
+      slots = slots-none scalar (batch (setup .n) (setup .t)) 1024;
+    }
+
+-- ---- DE
+
+pub dealing-new : (r : Run) (s : List ℕ) → dealingNumber r s ≡ 0
+    → (dealingRefusal (r .setup .n) (r .setup .t) (r .setup .a) s ≡ 0) × New (r .setup .n) (r .dealings .dealers) s
+unfolding dealingNumber
+dealing-new r s e =
+    let c = or-next _ _ e in
+    let p = dealing-passed _ _ _ s (c .0) in
+    (c .0, record { sender-pos = p .sender-pos; sender-max = p .sender-max; unsent = not-yes _ (passed _ 12 0 (c .1) (omega arith) .0) })
+
+module _ (setup : Setup) (d : Dealings) (s : List ℕ) (l : List (List ℕ)) (b : Bounds (setup .n) (setup .t) (setup .a)) (c : New (setup .n) (d .dealers) s) (h : DealingsOf setup d l) where
+  wrong-more : (i : ℕ) → 0 < i → sentBy i (snoc l s) ≡ true → getD (set (d .wrong) (sender s - 1) (wrongShares setup s)) (i - 1) 0 ≡ wrongShares setup (recordOf i (snoc l s))
+  wrong-more i p e =
+      recordOf-case s (b .n-max) c (h .senders) (λ z. getD (set (d .wrong) (sender s - 1) (wrongShares setup s)) (i - 1) 0 ≡ wrongShares setup z) i
+      (λ own. rw (← own) (getD-set-same (d .wrong) (sender s - 1) (wrongShares setup s) 0 (omega arith)))
+      (λ other. getD-set-other (d .wrong) (sender s - 1) (i - 1) (wrongShares setup s) 0 (omega arith) ∙ h .wrong-is i p (sym (sentBy-other i l s other) ∙ e))
+
+  pub dealings-more : dealingRefusal (setup .n) (setup .t) (setup .a) s ≡ 0 → DealingsOf setup (withDealing setup d s) (snoc l s)
+  unfolding withDealing
+  dealings-more e =
+      record {
+        commitments-size = length-stored (d .commitments) _ _ _ ∙ h .commitments-size;
+        wrong-size = length-set (d .wrong) _ _ ∙ h .wrong-size;
+        senders = senders-more s (b .n-max) c (h .senders);
+        slots = slots-more s (b .n-max) c (h .senders) element _ (d .commitments) (omega (arith, quorum-max b)) (h .commitments-size) (h .slots);
+        wrong-is = wrong-more;
+        admitted = all-snoc _ l s (h .admitted) e;
+      }
+
+-- ---- VE
+
+-- one more dealer
+pub complaints-kept : (setup : Setup) (dealers : ℕ) (c : Complaints) (s : List ℕ) (l : List (List ℕ)) → setup .n ≤ 32 → New (setup .n) dealers s
+    → ComplaintsOf setup dealers c l → ComplaintsOf setup (insert dealers (sender s)) c l
+complaints-kept setup dealers c s l b new h =
+    record {
+      senders = h .senders;
+      blamed-is = h .blamed-is;
+      founded = λ i e. rw (has-insert dealers (sender s) i (new .sender-pos) (omega arith), h .founded i e);
+    }
+
+-- a mask that passes blames accepted dealers alone
+blames-dealers : (n j mask : ℕ) (d : Dealings) → mask < 2 ^ n → allTo n (λ i. not (has mask (i + 1)) || mayBlame d j (i + 1)) ≡ true
+    → (i : ℕ) → has mask i ≡ true → has (d .dealers) i ≡ true
+unfolding has mayBlame
+blames-dealers n j mask d l e i h = and-left (has (d .dealers) i) _ (go (decLt n i))
+  where
+    pos : 0 < i
+    pos = leb-true 1 i (and-left (leb 1 i) _ h)
+
+    back : i - 1 + 1 ≡ i
+    back = omega (arith, pos)
+
+    go : Dec (n < i) → mayBlame d j i ≡ true
+    go (yes k) = absurd (no-both h (has-above mask n i l k))
+    go (no k) = rw (back, h) at (all-at n _ e (i - 1) (omega (arith, pos)))
+
+pub complaint-new : (r : Run) (s : List ℕ) → complaintNumber r s ≡ 0
+    → New (r .setup .n) (r .complaints .holders) s × ((i : ℕ) → has (numberAt s 4) i ≡ true → has (r .dealings .dealers) i ≡ true)
+unfolding complaintNumber
+complaint-new r s e =
+    let c = or-next _ _ e in
+    let p = complaint-passed _ s (c .0) in
+    let p₁ = passed _ 12 _ (c .1) (omega arith) in
+    let p₂ = passed _ 13 0 (p₁ .1) (omega arith) in
+    (record { sender-pos = p .sender-pos; sender-max = p .sender-max; unsent = not-yes _ (p₁ .0) }, blames-dealers (r .setup .n) (sender s) (numberAt s 4) (r .dealings) (p .mask) (p₂ .0))
+
+pub complaints-more : (setup : Setup) (dealers : ℕ) (c : Complaints) (s : List ℕ) (l : List (List ℕ)) → setup .n ≤ 32 → New (setup .n) (c .holders) s
+    → ((i : ℕ) → has (numberAt s 4) i ≡ true → has dealers i ≡ true) → ComplaintsOf setup dealers c l → ComplaintsOf setup dealers (withComplaint c s) (snoc l s)
+unfolding withComplaint
+complaints-more setup dealers c s l b new blames h =
+    record {
+      senders = senders-more s b new (h .senders);
+      blamed-is = λ i. has-or (c .blamed) (numberAt s 4) i ∙ ap (λ (z : Bool). z || has (numberAt s 4) i) (h .blamed-is i) ∙ sym (some-snoc (λ x. has (numberAt x 4) i) l s);
+      founded = λ i e. go i (has (c .blamed) i) refl (sym (has-or (c .blamed) (numberAt s 4) i) ∙ e);
+    }
+  where
+    go : (i : ℕ) (b : Bool) → has (c .blamed) i ≡ b → (b || has (numberAt s 4) i) ≡ true → has dealers i ≡ true
+    go i true d e = h .founded i d
+    go i false d e = blames i e
+
+-- ---- RE
+
+pub response-new : (r : Run) (s : List ℕ) → responseNumber r s ≡ 0
+    → New (r .setup .n) (r .responses .responders) s × Row (transcriptOf r) (r .complaints .holders) s
+unfolding responseNumber transcriptOf
+response-new r s e =
+    let c = or-next _ _ e in
+    let p = response-passed _ _ s (c .0) in
+    let p₁ = passed _ 12 _ (c .1) (omega arith) in
+    let p₂ = passed _ 14 _ (p₁ .1) (omega arith) in
+    let p₃ = passed _ 15 0 (p₂ .1) (omega arith) in
+    (record { sender-pos = p .sender-pos; sender-max = p .sender-max; unsent = not-yes _ (p₁ .0) }, record { held = p₂ .0; passing = all-at _ _ (p₃ .0) })
+
+pub responses-more : (setup : Setup) (p : Responses) (s : List ℕ) (l : List (List ℕ)) → Bounds (setup .n) (setup .t) (setup .a) → New (setup .n) (p .responders) s
+    → ResponsesOf setup p l → ResponsesOf setup (withResponse setup p s) (snoc l s)
+unfolding withResponse
+responses-more setup p s l b c h =
+    record {
+      numbers-size = length-stored (p .numbers) _ _ _ ∙ h .numbers-size;
+      senders = senders-more s (b .n-max) c (h .senders);
+      slots = slots-more s (b .n-max) c (h .senders) scalar _ (p .numbers) (omega (arith, batch-max b)) (h .numbers-size) (h .slots);
+    }

@@ -1,0 +1,213 @@
+-- Every record keeps the invariant, accepted or refused; so every list has it. Assumes nothing.
+use mathlib.Core.Path.{_≡_, refl, sym, subst, fun-ext, _∙_}
+use mathlib.Core.Bool.{Bool, true, false, not, _&&_}
+use mathlib.Core.List.{List, [], _∷_, _++_, append-assoc, append-nil}
+use Prim.Native.Nat.{ℕ, suc, _+_, _-_, _<_}
+use native.Mathlib.Omega.{arith}
+use lib.Dec.{eqb, ltb, leb}
+use borrow.Author.Tests.{eqb-true, eqb-false, leb-true}
+use Rattle.lists.specs.Tests.{pick, pick-case, not-yes, and-left, and-right}
+use Rattle.lists.specs.Members.{all-snoc}
+use Rattle.lists.specs.Stores.{length-stored, stored-from, length-filled, getD-filled}
+use Rattle.field.specs.Definitions.{scalar}
+use Rattle.records.specs.Parameters.{quorum}
+use Rattle.records.specs.Bytes.{byteAt, numberAt, word}
+use Rattle.records.specs.Tags.{Tag, SU, DE, VE, CH, RE, unknown, tagOf}
+use Rattle.records.specs.Refusals.{setupRefusal}
+use Rattle.records.specs.Laws.{cells-max}
+use Rattle.run.specs.declared.Run.{Run}
+use Rattle.run.specs.Runs.{noScalars, begun, fresh, stageOf, transcriptOf, phiOf}
+use Rattle.run.specs.Steps.{dealingNumber, withDealing, afterDealing, afterSetup, complaintNumber, withComplaint, complaintStage, afterComplaint, challengesNumber, afterChallenges, responseNumber, withResponse, withRow, finished, afterResponse, refused, taken, stepAt, stepOf, afterFrom, after}
+use Rattle.promises.specs.Lists.{acceptedFrom, accepted, ofTag, first}
+use Rattle.promises.specs.ListLaws.{snoc, more, ofTag-snoc}
+use Rattle.promises.specs.Invariant.{AtStage, Live, Invariant, live-bounds, stage-of}
+use Rattle.promises.specs.InvariantParts.{no-dealings, no-complaints, no-responses, dealing-new, dealings-more, complaint-new, complaints-more, complaints-kept, response-new, responses-more}
+
+-- a stage at which no φ is due
+before : (r : Run) (f : Tag → List (List ℕ)) (stage : ℕ) → (leb 1 stage && (leb stage 6 && not (eqb stage 5))) ≡ true
+    → (stage < 4 → (f CH ≡ []) × (f RE ≡ [])) → AtStage stage r f
+before r f stage e none =
+    record {
+      stage-pos = leb-true 1 stage (and-left (leb 1 stage) _ e);
+      stage-max = leb-true stage 6 (and-left (leb stage 6) _ (and-right (leb 1 stage) _ e));
+      early = none;
+      done = λ d. absurd (eqb-false stage 5 (not-yes _ (and-right (leb stage 6) _ (and-right (leb 1 stage) _ e))) d);
+    }
+
+-- ---- SU
+
+setup-live : (s : List ℕ) → setupRefusal s ≡ 0 → Live (afterSetup s) (more SU s (λ g. []))
+unfolding afterSetup begun noScalars first word numberAt byteAt
+setup-live s e =
+    record {
+      setup = record { setup-is = refl; admitted = e };
+      dealings = no-dealings _;
+      complaints = no-complaints _ _;
+      challenges = record { size = length-filled 512 (scalar 0); challenge-is = λ x l. getD-filled 512 (scalar 0) x };
+      responses = no-responses _;
+      rows = tt;
+      signatures-size = length-filled 512 (scalar 0);
+      stage = before _ _ 1 refl (λ l. (refl, refl));
+    }
+
+-- ---- DE
+
+dealing-live : (r : Run) (s : List ℕ) (f : Tag → List (List ℕ)) → r .stage ≡ 1 → dealingNumber r s ≡ 0 → Live r f → Live (afterDealing r s) (more DE s f)
+unfolding afterDealing withDealing transcriptOf
+dealing-live r s f g e h =
+    let c = dealing-new r s e in
+    let b = live-bounds r f h in
+    let none = h .stage .early (omega arith) in
+    let at = before (afterDealing r s) (more DE s f) in
+    record {
+      setup = h .setup;
+      dealings = dealings-more (r .setup) (r .dealings) s (f DE) b (c .1) (h .dealings) (c .0);
+      complaints = complaints-kept (r .setup) (r .dealings .dealers) (r .complaints) s (f VE) (b .n-max) (c .1) (h .complaints);
+      challenges = h .challenges;
+      responses = h .responses;
+      rows = rw (none .1) tt;
+      signatures-size = h .signatures-size;
+      stage = pick-case (λ z. AtStage z (afterDealing r s) (more DE s f)) (eqb (r .dealings .count + 1) (r .setup .n - r .setup .t)) 2 1 (λ d. at 2 refl (λ l. none)) (λ d. at 1 refl (λ l. none));
+    }
+
+-- ---- VE
+
+complaint-live : (r : Run) (s : List ℕ) (f : Tag → List (List ℕ)) → r .stage ≡ 2 → complaintNumber r s ≡ 0 → Live r f → Live (afterComplaint r s) (more VE s f)
+unfolding afterComplaint complaintStage withComplaint transcriptOf
+complaint-live r s f g e h =
+    let c = complaint-new r s e in
+    let none = h .stage .early (omega arith) in
+    let at = before (afterComplaint r s) (more VE s f) in
+    record {
+      setup = h .setup;
+      dealings = h .dealings;
+      complaints = complaints-more (r .setup) (r .dealings .dealers) (r .complaints) s (f VE) (live-bounds r f h .n-max) (c .0) (c .1) (h .complaints);
+      challenges = h .challenges;
+      responses = h .responses;
+      rows = rw (none .1) tt;
+      signatures-size = h .signatures-size;
+      stage = pick-case (λ z. AtStage z (afterComplaint r s) (more VE s f)) (eqb (r .complaints .count + 1) (r .setup .n - r .setup .t)) _ 2
+          (λ d. pick-case (λ z. AtStage z (afterComplaint r s) (more VE s f)) (ltb (r .setup .t) _) 6 3 (λ d. at 6 refl (λ l. none)) (λ d. at 3 refl (λ l. none))) (λ d. at 2 refl (λ l. none));
+    }
+
+-- ---- CH
+
+challenges-live : (r : Run) (s : List ℕ) (f : Tag → List (List ℕ)) → r .stage ≡ 3 → Live r f → Live (afterChallenges r s) (more CH s f)
+unfolding afterChallenges transcriptOf first
+challenges-live r s f g h =
+    let none = h .stage .early (omega arith) in
+    record {
+      setup = h .setup;
+      dealings = h .dealings;
+      complaints = h .complaints;
+      challenges = record {
+        size = length-stored (r .challenges) 0 _ _ ∙ h .challenges .size;
+        challenge-is = λ x l. rw (none .0) (stored-from (r .challenges) _ _ (scalar 0) (omega (arith, h .challenges .size, cells-max (live-bounds r f h))) x l);
+      };
+      responses = h .responses;
+      rows = rw (none .1) tt;
+      signatures-size = h .signatures-size;
+      stage = before _ _ 4 refl (λ l. absurd (omega arith));
+    }
+
+-- ---- RE
+
+row-live : (r : Run) (s : List ℕ) (f : Tag → List (List ℕ)) → r .stage ≡ 4 → responseNumber r s ≡ 0 → Live r f → Live (withRow r s) (more RE s f)
+unfolding withRow withResponse transcriptOf
+row-live r s f g e h =
+    let c = response-new r s e in
+    record {
+      setup = h .setup;
+      dealings = h .dealings;
+      complaints = h .complaints;
+      challenges = h .challenges;
+      responses = responses-more (r .setup) (r .responses) s (f RE) (live-bounds r f h) (c .0) (h .responses);
+      rows = all-snoc _ (f RE) s (h .rows) (c .1);
+      signatures-size = h .signatures-size;
+      stage = before _ _ 4 refl (λ l. absurd (omega arith));
+    }
+
+finished-live : (r : Run) (f : Tag → List (List ℕ)) → r .responses .count ≡ quorum (r .setup .t) (r .setup .a) → Live r f → Live (finished r) f
+unfolding finished transcriptOf phiOf
+finished-live r f e h =
+    record {
+      setup = h .setup;
+      dealings = h .dealings;
+      complaints = h .complaints;
+      challenges = h .challenges;
+      responses = h .responses;
+      rows = h .rows;
+      signatures-size = length-stored (r .signatures) 0 _ _ ∙ h .signatures-size;
+      stage = record {
+        stage-pos = omega arith;
+        stage-max = omega arith;
+        early = λ l. absurd (omega arith);
+        done = λ d. record {
+          full = e;
+          signatures = stored-from (r .signatures) _ _ (scalar 0) (omega (arith, h .signatures-size, cells-max (live-bounds r f h)));
+        };
+      };
+    }
+
+response-live : (r : Run) (s : List ℕ) (f : Tag → List (List ℕ)) → r .stage ≡ 4 → responseNumber r s ≡ 0 → Live r f → Live (afterResponse r s) (more RE s f)
+unfolding afterResponse withRow withResponse
+response-live r s f g e h =
+    let row = row-live r s f g e h in
+    pick-case (λ z. Live z (more RE s f)) (eqb (r .responses .count + 1) (quorum (r .setup .t) (r .setup .a))) (finished (withRow r s)) (withRow r s)
+    (λ d. finished-live (withRow r s) (more RE s f) (eqb-true _ _ d) row) (λ d. row)
+
+-- ---- the step, and the list
+
+-- a record at its stage: refused, or taken
+taken-keeps : (g : ℕ) (r : Run) (k : ℕ) (next : Run) (s : List ℕ) (l : List (List ℕ)) → Invariant r l
+    → (r .stage ≡ g → k ≡ 0 → Live next (more (tagOf s) s (λ g. ofTag g l)))
+    → Invariant (taken g r k next .run) (pick (eqb (taken g r k next .number) 0) (snoc l s) l)
+unfolding taken
+taken-keeps g r k next s l h f = go (eqb (stageOf r) g) refl (eqb k 0) refl
+  where
+    accepts : Live next (more (tagOf s) s (λ g. ofTag g l)) → Invariant next (snoc l s)
+    accepts h = record { start = λ e. absurd (omega (arith, h .stage .stage-pos)); live = λ p. subst (Live next) (sym (fun-ext (ofTag-snoc l s))) h }
+
+    go : (b : Bool) → eqb (stageOf r) g ≡ b → (c : Bool) → eqb k 0 ≡ c
+        → Invariant ((pick b (pick c (record { run = next; number = 0 }) (refused r k)) (refused r 11)) .run)
+        (pick (eqb ((pick b (pick c (record { run = next; number = 0 }) (refused r k)) (refused r 11)) .number) 0) (snoc l s) l)
+    go true e true d = accepts (f (sym (stage-of r l h) ∙ eqb-true _ _ e) (eqb-true _ _ d))
+    go true e false d = rw d h
+    go false e c d = h
+
+step-keeps : (r : Run) (s : List ℕ) (l : List (List ℕ)) → Invariant r l → Invariant (stepOf r s .run) (pick (eqb (stepOf r s .number) 0) (snoc l s) l)
+unfolding stepOf stepAt ofTag challengesNumber
+step-keeps r s l h = go (tagOf s) refl
+  where
+    f : Tag → List (List ℕ)
+    f g = ofTag g l
+
+    live : (g : ℕ) → r .stage ≡ suc g → Live r f
+    live g e = h .live (omega arith)
+
+    go : (k : Tag) → tagOf s ≡ k → Invariant (stepAt k r s .run) (pick (eqb (stepAt k r s .number) 0) (snoc l s) l)
+    go SU m = taken-keeps 0 r _ _ s l h (λ g e. rw (m, h .start g) (setup-live s e))
+    go DE m = taken-keeps 1 r _ _ s l h (λ g e. rw m (dealing-live r s f g e (live 0 g)))
+    go VE m = taken-keeps 2 r _ _ s l h (λ g e. rw m (complaint-live r s f g e (live 1 g)))
+    go CH m = taken-keeps 3 r _ _ s l h (λ g e. rw m (challenges-live r s f g (live 2 g)))
+    go RE m = taken-keeps 4 r _ _ s l h (λ g e. rw m (response-live r s f g e (live 3 g)))
+    go unknown m = h
+
+fresh-invariant : Invariant fresh []
+unfolding fresh begun
+fresh-invariant = record { start = λ e. refl; live = λ l. absurd (omega arith) }
+
+regroup : (b : Bool) (k l : List (List ℕ)) (s : List ℕ) → pick b (snoc k s) k ++ l ≡ k ++ pick b (s ∷ l) l
+regroup true k l s = append-assoc k (s ∷ []) l
+regroup false k l s = refl
+
+-- the records l given to a run that has accepted k
+invariant-from : (r : Run) (k l : List (List ℕ)) → Invariant r k → Invariant (afterFrom r l) (k ++ acceptedFrom r l)
+unfolding afterFrom acceptedFrom
+invariant-from r k [] h = rw append-nil h
+invariant-from r k (s ∷ l) h =
+    rw regroup at (invariant-from (stepOf r s .run) (pick (eqb (stepOf r s .number) 0) (snoc k s) k) l (step-keeps r s k h))
+
+pub invariant-after : (l : List (List ℕ)) → Invariant (after l) (accepted l)
+unfolding after accepted
+invariant-after l = invariant-from fresh [] l fresh-invariant

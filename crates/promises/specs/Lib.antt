@@ -1,0 +1,10 @@
+pub mod Lists
+pub mod ListLaws
+pub mod Senders
+pub mod Invariant
+pub mod InvariantParts
+pub mod InvariantSteps
+pub mod Places
+pub mod Made
+pub mod Finished
+pub mod Demand3

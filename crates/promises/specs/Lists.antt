@@ -1,0 +1,85 @@
+-- What a list of records has, read from the bytes of its accepted records alone (document 01, "The run").
+use Prim.Native.Nat.{ℕ, _-_}
+use mathlib.Core.Bool.{Bool, false, not, _&&_, _||_}
+use mathlib.Core.List.{List, [], _∷_}
+use lib.ListN.{length, getD}
+use lib.Dec.{eqb}
+use Rattle.lists.specs.Tests.{pick}
+use Rattle.sets.specs.Masks.{has}
+use Rattle.field.specs.declared.Scalar.{Scalar}
+use Rattle.field.specs.Definitions.{scalar, element}
+use Rattle.interpolation.specs.Definitions.{party, slot, scalarAt}
+use Rattle.records.specs.Bytes.{byteAt, numberAt, word, sender}
+use Rattle.records.specs.Tags.{Tag, SU, DE, VE, CH, RE, code, tagOf}
+use Rattle.run.specs.declared.Run.{Run}
+use Rattle.protocol.specs.Transcript.{Transcript}
+use Rattle.run.specs.Runs.{fresh, cell}
+use Rattle.run.specs.Steps.{stepOf}
+
+-- the accepted records of a list that is given to r: those that are answered with 0, reading on after refusals
+unfoldable pub acceptedFrom : Run → List (List ℕ) → List (List ℕ)
+acceptedFrom r [] = []
+acceptedFrom r (s ∷ l) =
+    pick (eqb (stepOf r s .number) 0) (s ∷ acceptedFrom (stepOf r s .run) l) (acceptedFrom (stepOf r s .run) l)
+
+unfoldable pub accepted : List (List ℕ) → List (List ℕ)
+accepted l = acceptedFrom fresh l
+
+-- those of one tag
+unfoldable pub ofTag : Tag → List (List ℕ) → List (List ℕ)
+ofTag g [] = []
+ofTag g (s ∷ l) = pick (eqb (code (tagOf s)) (code g)) (s ∷ ofTag g l) (ofTag g l)
+
+-- the first record
+unfoldable pub first : List (List ℕ) → List ℕ
+first [] = []
+first (s ∷ l) = s
+
+-- some record passes a test
+unfoldable pub some : (List ℕ → Bool) → List (List ℕ) → Bool
+some p [] = false
+some p (s ∷ l) = p s || some p l
+
+abbrev pub sentBy : ℕ → List (List ℕ) → Bool
+sentBy i l = some (λ s. eqb (sender s) i) l
+
+-- the first record of a sender
+unfoldable pub recordOf : ℕ → List (List ℕ) → List ℕ
+recordOf i [] = []
+recordOf i (s ∷ l) = pick (eqb (sender s) i) s (recordOf i l)
+
+-- of a list of accepted records:
+module _ (l : List (List ℕ)) where
+  -- the accepted dealers
+  unfoldable pub dealer : ℕ → Bool
+  dealer i = sentBy i (ofTag DE l)
+
+  -- HOLD: the senders of the accepted complaint rows
+  unfoldable pub hold : ℕ → Bool
+  hold j = sentBy j (ofTag VE l)
+
+  -- BAD: the dealers whom any of them blames
+  unfoldable pub bad : ℕ → Bool
+  bad i = dealer i && some (λ s. has (numberAt s 4) i) (ofTag VE l)
+
+  -- QUAL: the other accepted dealers
+  unfoldable pub qualified : ℕ → Bool
+  qualified i = dealer i && not (bad i)
+
+  -- the setup of the accepted SU, QUAL, the commitments of the accepted DE, the challenges of the accepted CH
+  unfoldable pub read : Transcript
+  read =
+      record {
+        n = byteAt (first (ofTag SU l)) 2;
+        t = byteAt (first (ofTag SU l)) 3;
+        a = byteAt (first (ofTag SU l)) 4;
+        key = λ j. element (word (first (ofTag SU l)) 6 j);
+        qual = qualified;
+        commitment = λ i v. element (word (recordOf i (ofTag DE l)) 4 v);
+        challenge = λ u k. scalar (word (first (ofTag CH l)) 4 (cell (byteAt (first (ofTag SU l)) 4) u k));
+      }
+
+  -- φ(u,k): the numbers for u of the accepted RE, interpolated at 1-k
+  unfoldable pub phi : ℕ → ℕ → Scalar
+  phi u k =
+      scalarAt (λ i. party (sender (getD (ofTag RE l) i []))) (length (ofTag RE l)) (λ i. scalar (word (getD (ofTag RE l) i []) 4 (u - 1))) (slot k)

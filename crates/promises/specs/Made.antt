@@ -1,0 +1,82 @@
+-- A run that a list of records makes keeps what the list has: its public values and its sets. Assumes nothing.
+use mathlib.Core.Path.{_≡_, refl, sym, ap, ap₂, _∙_}
+use mathlib.Core.Bool.{Bool, true, false, not, _&&_, and-false}
+use mathlib.Core.List.{List}
+use Prim.Native.Nat.{ℕ, _<_}
+use Rattle.lists.specs.Tests.{and-left}
+use Rattle.sets.specs.Masks.{has}
+use Rattle.field.specs.Definitions.{scalar}
+use Rattle.records.specs.Parameters.{batch}
+use Rattle.records.specs.Bytes.{word}
+use Rattle.records.specs.Tags.{SU, CH}
+use Rattle.protocol.specs.Alike.{Alike}
+use Rattle.protocol.specs.Signature.{Sound}
+use Rattle.run.specs.declared.Setup.{Setup}
+use Rattle.run.specs.Runs.{cell, wellFormed, stageOf, transcriptOf}
+use Rattle.run.specs.Steps.{setupOf, after}
+use Rattle.promises.specs.Lists.{accepted, ofTag, first, dealer, hold, bad, qualified, read}
+use Rattle.promises.specs.Places.{cell-lt}
+use Rattle.promises.specs.Invariant.{Live, key-is, key-element, commitment-element, live-bounds, live-well-formed, stage-of}
+use Rattle.promises.specs.InvariantSteps.{invariant-after}
+
+-- what only members have
+within : (b d : Bool) → (b ≡ true → d ≡ true) → b ≡ (d && b)
+within true true h = refl
+within true false h = sym (h refl)
+within false d h = sym (and-false d)
+
+pub made-stage : (l : List (List ℕ)) → stageOf (after l) ≡ after l .stage
+made-stage l = stage-of (after l) (accepted l) (invariant-after l)
+
+module _ (l : List (List ℕ)) (p : 0 < after l .stage) where
+  pub made-live : Live (after l) (λ g. ofTag g (accepted l))
+  made-live = invariant-after l .live p
+
+  pub made-well-formed : wellFormed (after l) ≡ true
+  made-well-formed = live-well-formed (after l) _ made-live
+
+  -- the parameters are within the bounds, the key and the commitments of QUAL elements
+  pub made-sound : Sound (transcriptOf (after l))
+  unfolding transcriptOf
+  made-sound =
+      record {
+        bounds = live-bounds (after l) _ made-live;
+        keys = key-element (after l .setup) _ (made-live .setup);
+        commitments = λ i v p k e. commitment-element (after l .setup) (after l .dealings) _ (made-live .dealings) i v p (and-left (has (after l .dealings .dealers) i) _ e);
+      }
+
+  -- ---- the sets
+
+  pub made-hold : (j : ℕ) → has (after l .complaints .holders) j ≡ hold (accepted l) j
+  unfolding hold
+  made-hold j = made-live .complaints .senders .mask-is j
+
+  pub made-bad : (i : ℕ) → has (after l .complaints .blamed) i ≡ bad (accepted l) i
+  unfolding bad dealer
+  made-bad i =
+      within (has (after l .complaints .blamed) i) (has (after l .dealings .dealers) i) (made-live .complaints .founded i)
+      ∙ ap₂ _&&_ (made-live .dealings .senders .mask-is i) (made-live .complaints .blamed-is i)
+
+  pub made-qual : (i : ℕ) → (has (after l .dealings .dealers) i && not (has (after l .complaints .blamed) i)) ≡ qualified (accepted l) i
+  unfolding qualified dealer
+  made-qual i = ap₂ (λ (d b : Bool). d && not b) (made-live .dealings .senders .mask-is i) (made-bad i)
+
+  -- ---- the public values
+
+  setup-same : {A : Type 0} (f : Setup → A) → f (after l .setup) ≡ f (setupOf (first (ofTag SU (accepted l))))
+  setup-same f = ap f (made-live .setup .setup-is)
+
+  pub made-alike : Alike (transcriptOf (after l)) (read (accepted l))
+  unfolding transcriptOf read setupOf
+  made-alike =
+      record {
+        n-same = setup-same (λ z. z .n);
+        t-same = setup-same (λ z. z .t);
+        a-same = setup-same (λ z. z .a);
+        key-same = key-is (after l .setup) _ (made-live .setup);
+        qual-same = λ i p k. made-qual i;
+        commitment-same = λ i v p k e. made-live .dealings .slots i v p;
+        challenge-same = λ u k p m c d.
+            made-live .challenges .challenge-is (cell (after l .setup .a) u k) (cell-lt (after l .setup .a) (batch (after l .setup .n) (after l .setup .t)) u k p m c d)
+            ∙ ap (λ (x : ℕ). scalar (word (first (ofTag CH (accepted l))) 4 (cell x u k))) (setup-same (λ z. z .a));
+      }

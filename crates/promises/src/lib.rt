@@ -1,0 +1,1 @@
+// What is promised of lists of records: theorems in specs/, no code.
