@@ -52,6 +52,11 @@ unfolding listed
 listed-cong m f g e =
     ap (λ (l : List Scalar). record { at = l; count = min m 64 }) (stored-cong (filled 64 (scalar 0)) 0 (min m 64) f g (λ i l. e i (omega arith)))
 
+-- it is the array with its count
+pub listed-is : (m : ℕ) (f : ℕ → Scalar) → m ≤ 64 → listed m f ≡ record { at = stored (filled 64 (scalar 0)) 0 m f; count = m }
+unfolding listed
+listed-is m f h = let all : min m 64 ≡ m = omega arith in ap (λ (k : ℕ). record { at = stored (filled 64 (scalar 0)) 0 k f; count = k }) all
+
 -- weights and interpolation go by the points and values below m alone
 pub weight-cong : (pt pt′ : ℕ → Scalar) (m i : ℕ) (x : Scalar) → i < m → ((l : ℕ) → l < m → pt l ≡ pt′ l) → weight pt m i x ≡ weight pt′ m i x
 unfolding weight factor

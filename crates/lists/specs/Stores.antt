@@ -3,13 +3,13 @@
 use mathlib.Core.Path.{_≡_, refl, sym, ap, ap₂, _∙_}
 use mathlib.Core.List.{List}
 use mathlib.Core.Logic.{_≢_}
-use Prim.Native.Nat.{ℕ, zero, suc, _+_, _≤_, _<_}
+use Prim.Native.Nat.{ℕ, zero, suc, _+_, _-_, _≤_, _<_, min}
 use native.Mathlib.Omega.{arith}
-use native.Mathlib.Nat.{zero-add}
+use native.Mathlib.Nat.{zero-add, add-zero, add-suc}
 use native.Mathlib.Numerals.{add-one}
-use native.Mathlib.Decide.{ℕ-discrete, decLt}
+use native.Mathlib.Decide.{ℕ-discrete, decLe, decLt}
 use lib.ListN.{length, getD, set, replicate, length-set, length-replicate, getD-replicate, List·getD-eq-default}
-use lib.Seq.{getD-set-same, getD-set-other}
+use lib.Seq.{set-out, getD-set-same, getD-set-other}
 
 -- the list with f 0, .., f (k - 1) in place of what stands from base
 unfoldable pub stored : {A : Type 0} → List A → ℕ → ℕ → (ℕ → A) → List A
@@ -32,6 +32,29 @@ module _ {A : Type 0} where
   pub stored-next : (l : List A) (base k : ℕ) (f : ℕ → A) → stored l base (k + 1) f ≡ set (stored l base k f) (base + k) (f k)
   unfolding stored
   stored-next l base k f = ap (λ (m : ℕ). stored l base m f) (add-one k)
+
+  -- the same from the front
+  pub stored-first : (l : List A) (k : ℕ) (f : ℕ → A) → stored l 0 (k + 1) f ≡ set (stored l 0 k f) k (f k)
+  stored-first l k f = stored-next l 0 k f ∙ ap (λ (p : ℕ). set (stored l 0 k f) p (f k)) (zero-add k)
+
+  -- stores past the end change nothing
+  pub stored-capped : (l : List A) (m : ℕ) (f : ℕ → A) → stored l 0 (min m (length l)) f ≡ stored l 0 m f
+  stored-capped l m f = go (decLe m (length l))
+    where
+      past : (k : ℕ) → stored l 0 (length l + k) f ≡ stored l 0 (length l) f
+      past zero = ap (λ (i : ℕ). stored l 0 i f) (add-zero (length l))
+      past (suc k) =
+          ap (λ (i : ℕ). stored l 0 i f) (add-suc (length l) k ∙ sym (add-one (length l + k)))
+          ∙ stored-first l (length l + k) f
+          ∙ set-out (stored l 0 (length l + k) f) (length l + k) (f (length l + k)) (omega (arith, length-stored l 0 (length l + k) f))
+          ∙ past k
+
+      go : Dec (m ≤ length l) → stored l 0 (min m (length l)) f ≡ stored l 0 m f
+      go (yes h) = ap (λ (i : ℕ). stored l 0 i f) (omega arith)
+      go (no h) =
+          let least : min m (length l) ≡ length l = omega arith in
+          let rest : m ≡ length l + (m - length l) = omega arith in
+          ap (λ (i : ℕ). stored l 0 i f) least ∙ sym (past (m - length l)) ∙ ap (λ (i : ℕ). stored l 0 i f) (sym rest)
 
   -- what was stored is read there
   pub stored-at : (l : List A) (base k : ℕ) (f : ℕ → A) (d : A) → base + k ≤ length l → (i : ℕ) → i < k → getD (stored l base k f) (base + i) d ≡ f i
@@ -59,6 +82,11 @@ module _ {A : Type 0} where
   stored-cong l base (suc k) f g h = ap₂ (λ (r : List A) (x : A). set r (base + k) x) (stored-cong l base k f g (λ i c. h i (omega arith))) (h k (omega arith))
 
   -- ---- one element throughout
+
+  -- as the code makes it, before the first store
+  pub stored-none : (n : ℕ) (x : A) (f : ℕ → A) → replicate n x ≡ stored (filled n x) 0 0 f
+  unfolding stored filled
+  stored-none n x f = refl
 
   pub length-filled : (n : ℕ) (x : A) → length (filled n x) ≡ n
   unfolding filled

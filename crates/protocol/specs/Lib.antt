@@ -1,5 +1,6 @@
 pub mod Transcript
 pub mod Arrays
+pub mod ArrayLaws
 pub mod Alike
 pub mod Combined
 pub mod Signature

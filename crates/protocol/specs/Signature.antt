@@ -44,7 +44,7 @@ module _ (w : Transcript) (u : ℕ) (s : Sound w) where
   response-exponential =
       exponential-product combined-exponential
       (exponential-wider (omega (arith, quorum-is (s .bounds), s .bounds .a-pos))
-      (exponential-raise key-exponential (polynomial-interpolated (λ v. slot (v + 1)) (w .a) (λ v. w .challenge u (v + 1)))))
+      (exponential-raise key-exponential (polynomial-interpolated (λ v. slot (v + 1)) (w .a) _)))
 
   -- at a packed slot: S, and e(u,k)
   key-slot : (k : ℕ) → 0 < k → k ≤ w .a → keyAt w (slot k) ≡ w .key 0

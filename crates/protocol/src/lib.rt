@@ -1,7 +1,7 @@
 // What a committee's public values come to, worked out on flat arrays.
 ghost use mathlib.Core.Path.{_≡_};
 ghost use mathlib.Core.Bool.{not, _&&_};
-ghost use Prim.Native.Nat.{_+_, _-_, _*_};
+ghost use Prim.Native.Nat.{_+_, _-_, _*_, min};
 ghost use lib.ListN.{getD};
 ghost use lib.Dec.{eqb};
 ghost use Rattle.sets.specs.Masks.{has};
@@ -14,12 +14,25 @@ use field::Element;
 use field::Scalar;
 use interpolation::Row;
 
+// One less, and 0 for 0.
+fn predecessor(u: u8) -> u8
+    ensures { λ r. ⌜ r ≡ u - 1 ⌝ }
+{
+    if 0 < u { u - 1 } else { 0 }
+}
+
+// How many of `count` values an array of 64 takes.
+fn capped(count: usize) -> usize
+    ensures { λ r. ⌜ r ≡ min count 64 ⌝ }
+{
+    if count < 64 { count } else { 64 }
+}
+
 // i^(u-1), i being the dealer's number.
 pub fn coefficient(i: u8, u: u8) -> Scalar
     ensures { λ r. ⌜ r ≡ coefficient i u ⌝ }
 {
-    let exponent = if 0 < u { u - 1 } else { 0 };
-    Scalar(i as u32).power(exponent as u32)
+    Scalar(i as u32).power(predecessor(u) as u32)
 }
 
 // Whether a share for j is valid under committed values: the weights are those of the committed points at j.
@@ -31,23 +44,29 @@ pub fn share_fits(weights: Row, values: [Element; 64], share: Scalar) -> bool
     sent.0 == image.0
 }
 
+// Committed value number v of the dealers of a set, combined for u.
+fn combined_value(list: [Element; 1024], qual: u64, n: u8, u: u8, v: u8) -> Element
+    ensures { λ r. ⌜ r ≡ combinedValue n (has qual) (commitmentIn list) u v ⌝ }
+{
+    let mut product = Element::ONE;
+    for i in 0..n {
+        if sets::has(qual, i + 1) {
+            let at = i as usize * 32 + v as usize;
+            let value = if at < 1024 { list[at] } else { Element(0) };
+            product = product.mul(value.pow(coefficient(i + 1, u)));
+        }
+    }
+    product
+}
+
 // The committed values of the dealers of a set, combined for u.
 pub fn combined_values(list: [Element; 1024], qual: u64, n: u8, quorum: u8, u: u8) -> [Element; 64]
     ensures { λ r. ⌜ r ≡ elements quorum (combinedValue n (has qual) (commitmentIn list) u) ⌝ }
 {
+    let m = capped(quorum as usize);
     let mut values = [Element(0); 64];
-    for v in 0..quorum {
-        let mut product = Element::ONE;
-        for i in 0..n {
-            if sets::has(qual, i + 1) {
-                let at = i as usize * 32 + v as usize;
-                let value = if at < 1024 { list[at] } else { Element(0) };
-                product = product.mul(value.pow(coefficient(i + 1, u)));
-            }
-        }
-        if v < 64 {
-            values[v as usize] = product;
-        }
+    for v in 0..m {
+        values[v] = combined_value(list, qual, n, u, v as u8);
     }
     values
 }
@@ -56,14 +75,12 @@ pub fn combined_values(list: [Element; 1024], qual: u64, n: u8, quorum: u8, u: u
 pub fn key_values(key: [Element; 32], t: u8, a: u8) -> [Element; 64]
     ensures { λ r. ⌜ r ≡ elements (t + a) (λ v. getD key (v + 1 - a) (element 0)) ⌝ }
 {
-    let mut values = [Element(0); 64];
     let packed = a as usize;
-    for v in 0..(t as usize + packed) {
+    let m = capped(t as usize + packed);
+    let mut values = [Element(0); 64];
+    for v in 0..m {
         let j = if v < packed { 0 } else { v + 1 - packed };
-        let value = if j < 32 { key[j] } else { Element(0) };
-        if v < 64 {
-            values[v] = value;
-        }
+        values[v] = if j < 32 { key[j] } else { Element(0) };
     }
     values
 }
@@ -72,15 +89,12 @@ pub fn key_values(key: [Element; 32], t: u8, a: u8) -> [Element; 64]
 pub fn challenge_values(list: [Scalar; 512], a: u8, u: u8) -> [Scalar; 64]
     ensures { λ r. ⌜ r ≡ scalars a (λ v. challengeIn a list u (v + 1)) ⌝ }
 {
+    let m = capped(a as usize);
+    let start = predecessor(u) as usize * a as usize;
     let mut values = [Scalar::ZERO; 64];
-    let before = if 0 < u { u - 1 } else { 0 };
-    let start = before as usize * a as usize;
-    for v in 0..a {
-        let at = start + v as usize;
-        let value = if at < 512 { list[at] } else { Scalar::ZERO };
-        if v < 64 {
-            values[v as usize] = value;
-        }
+    for v in 0..m {
+        let at = start + v;
+        values[v] = if at < 512 { list[at] } else { Scalar::ZERO };
     }
     values
 }
@@ -94,7 +108,7 @@ pub fn member_points(n: u8, set: u64) -> Row
     for i in 0..n {
         if sets::has(set, i + 1) {
             at[count as usize] = interpolation::point(i + 1, 0);
-            count = count + 1;
+            count += 1;
         }
     }
     Row {
@@ -107,15 +121,14 @@ pub fn member_points(n: u8, set: u64) -> Row
 pub fn member_numbers(n: u8, set: u64, numbers: [Scalar; 1024], u: u8) -> [Scalar; 64]
     ensures { λ r. ⌜ r ≡ memberNumbers n set numbers u ⌝ }
 {
+    let before = predecessor(u) as usize;
     let mut values = [Scalar::ZERO; 64];
-    let before = if 0 < u { u - 1 } else { 0 };
-    let mut count: u8 = 0;
+    let mut count: usize = 0;
     for i in 0..n {
         if sets::has(set, i + 1) {
-            let at = i as usize * 32 + before as usize;
-            let value = if at < 1024 { numbers[at] } else { Scalar::ZERO };
-            values[count as usize] = value;
-            count = count + 1;
+            let at = i as usize * 32 + before;
+            values[count] = if at < 1024 { numbers[at] } else { Scalar::ZERO };
+            count += 1;
         }
     }
     values

@@ -11,7 +11,7 @@ use lib.Pow.{pow-lt}
 use lib.Bits.{bitOr, or-lt, or-shifted-r}
 use lib.Dec.{eqb, leb, eqb·zero-suc, eqb·suc-suc}
 use borrow.Author.Tests.{eq-eqb, ne-eqb, le-leb, lt-leb}
-use Rattle.lists.specs.Tests.{pick, pick-case, pick-map}
+use Rattle.lists.specs.Tests.{pick, pick-case, pick-map, no-both}
 use Rattle.sets.specs.Masks.{bit, has, insert, minus, maskOf}
 use Rattle.sets.specs.BitLaws.{bit-or, bit-minus, bit-zero, bit-pow, bit-is, bit-high, bits-lt, bits-ext}
 
@@ -75,6 +75,13 @@ has-insert m (suc j) (suc i) p l = rw (insert-bit m j l, has-bit (bitOr m (2 ^ j
 pub has-above : (m n i : ℕ) → m < 2 ^ n → n < i → has m i ≡ false
 has-above m n zero l h = absurd (omega arith)
 has-above m n (suc i) l h = has-bit m i ∙ bit-high n i m l (omega arith)
+
+pub has-le : (m n i : ℕ) → m < 2 ^ n → has m i ≡ true → i ≤ n
+has-le m n i l e = go (decLe i n)
+  where
+    go : Dec (i ≤ n) → i ≤ n
+    go (yes h) = h
+    go (no h) = absurd (no-both e (has-above m n i l (omega arith)))
 
 -- and the other way round
 pub has-lt : (m n : ℕ) → ((i : ℕ) → n < i → has m i ≡ false) → m < 2 ^ n

@@ -3,7 +3,7 @@
 use mathlib.Core.Path.{_≡_, refl, sym, ap, ap₂, _∙_}
 use mathlib.Core.Bool.{Bool, true, false, _||_, or-true, or-false}
 use mathlib.Core.List.{List, [], _∷_, _++_, append-nil}
-use Prim.Native.Nat.{ℕ, zero, suc, _+_, _≤_, _<_}
+use Prim.Native.Nat.{ℕ, zero, suc, _+_, _^_, _≤_, _<_}
 use native.Mathlib.Omega.{arith}
 use native.Mathlib.Nat.{add-zero, add-suc, suc-add, add-comm}
 use native.Mathlib.Numerals.{add-one}
@@ -13,7 +13,8 @@ use lib.Dec.{eqb}
 use borrow.Author.Tests.{eq-eqb, ne-eqb}
 use Rattle.lists.specs.Tests.{pick, pick-case, pick-map}
 use Rattle.lists.specs.Members.{All, all-map, Distinct}
-use Rattle.sets.specs.Masks.{membersFrom, members, count}
+use Rattle.sets.specs.Masks.{has, membersFrom, members, count}
+use Rattle.sets.specs.MaskLaws.{has-le}
 
 -- ---- what is a member
 
@@ -92,6 +93,10 @@ members-last f s (suc n) =
     ∙ sym (pick-map (λ (l : List ℕ). l ++ passing f (suc s + n)) (f s) (s ∷ rest) rest)
     ∙ ap (λ (i : ℕ). pick (f s) (s ∷ rest) rest ++ passing f i) (suc-add s n ∙ sym (add-suc s n))
 
+pub count-none : (f : ℕ → Bool) → count 0 f ≡ 0
+unfolding membersFrom
+count-none f = refl
+
 pub members-next : (n : ℕ) (f : ℕ → Bool) → members (n + 1) f ≡ pick (f (n + 1)) (members n f ++ ((n + 1) ∷ [])) (members n f)
 unfolding passing
 members-next n f =
@@ -116,3 +121,14 @@ from-le f s (suc n) =
 
 pub count-le : (n : ℕ) (f : ℕ → Bool) → count n f ≤ n
 count-le n f = from-le f 1 n
+
+-- before a member of a mask of w bits there are fewer than w
+pub count-before : (w n m : ℕ) → m < 2 ^ w → has m (n + 1) ≡ true → count n (has m) < w
+count-before w n m l e = omega (arith, has-le m w (n + 1) l e, count-le n (has m))
+
+-- a mask of w bits has at most w members
+pub count-bits : (w n m : ℕ) → m < 2 ^ w → count n (has m) ≤ w
+count-bits w zero m l = omega (arith, count-none (has m))
+count-bits w (suc n) m l =
+    rw (← add-one n, count-next n (has m))
+    (pick-case (λ (k : ℕ). k ≤ w) (has m (n + 1)) (count n (has m) + 1) (count n (has m)) (λ e. omega (arith, count-before w n m l e)) (λ e. count-bits w n m l))

@@ -7,7 +7,7 @@ use Prim.Native.Nat.{_-_, _≤_}
 use Rattle.lists.specs.Tests.{allTo}
 use Rattle.field.specs.Definitions.{isElement}
 use Rattle.records.specs.Bytes.{word}
-use Rattle.records.proofs.Calls.{holds, fails}
+use Rattle.lists.specs.Calls.{holds, fails}
 use Rattle.records.proofs.Loops.{all-more, one-fails}
 use Rattle.records.proofs.all_elements.Statement.{statement}
 use Rattle.records.proofs.all_elements.Tie as tie

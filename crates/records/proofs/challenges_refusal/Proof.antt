@@ -3,7 +3,7 @@ use borrow.Author.Needs.{needs}
 use native.Mathlib.Omega.{arith}
 use Rattle.lists.specs.Tests.{require}
 use Rattle.records.specs.Refusals.{challengesRefusal}
-use Rattle.records.proofs.Calls.{holds, fails, equals, differs, is, is-not}
+use Rattle.lists.specs.Calls.{holds, fails, equals, differs, is, is-not}
 use Rattle.records.proofs.Products.{byte-product}
 use Rattle.records.proofs.challenges_refusal.Statement.{statement}
 use Rattle.records.proofs.challenges_refusal.Tie as tie

@@ -2,7 +2,7 @@
 use borrow.Author.Needs.{needs}
 use Rattle.lists.specs.Tests.{require}
 use Rattle.records.specs.Refusals.{dealingRefusal}
-use Rattle.records.proofs.Calls.{holds, fails, equals, differs, is, is-not}
+use Rattle.lists.specs.Calls.{holds, fails, equals, differs, is, is-not}
 use Rattle.records.proofs.dealing_refusal.Statement.{statement}
 use Rattle.records.proofs.dealing_refusal.Tie as tie
 

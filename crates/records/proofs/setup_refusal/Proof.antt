@@ -3,7 +3,7 @@ use borrow.Author.Needs.{needs}
 use borrow.Author.Tests.{le-leb, lt-leb}
 use Rattle.lists.specs.Tests.{require}
 use Rattle.records.specs.Refusals.{setupRefusal}
-use Rattle.records.proofs.Calls.{holds, fails, equals, differs, is, is-not}
+use Rattle.lists.specs.Calls.{holds, fails, equals, differs, is, is-not}
 use Rattle.records.proofs.setup_refusal.Statement.{statement}
 use Rattle.records.proofs.setup_refusal.Tie as tie
 
