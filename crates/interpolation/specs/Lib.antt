@@ -5,3 +5,4 @@ pub mod Polynomials
 pub mod Exponentials
 pub mod Rows
 pub mod Products
+pub mod Turns

@@ -1,13 +1,11 @@
 // What a committee's public values come to, worked out on flat arrays.
 ghost use mathlib.Core.Path.{_≡_};
-ghost use mathlib.Core.Bool.{not, _&&_};
-ghost use Prim.Native.Nat.{_+_, _-_, _*_, min};
+ghost use Prim.Native.Nat.{_+_, _-_, min};
 ghost use lib.ListN.{getD};
 ghost use lib.Dec.{eqb};
 ghost use Rattle.sets.specs.Masks.{has};
 ghost use Rattle.field.specs.Definitions.{scalar, element, generator, raise};
-ghost use Rattle.interpolation.specs.Definitions.{party, slot, committedPoint, elementAt};
-ghost use Rattle.interpolation.specs.Rows.{productOf, sumOf};
+ghost use Rattle.interpolation.specs.Rows.{productOf};
 ghost use Rattle.protocol.specs.Transcript.{coefficient};
 ghost use Rattle.protocol.specs.Arrays.{commitmentIn, challengeIn, elements, scalars, combinedValue, memberPoints, memberNumbers};
 use field::Element;

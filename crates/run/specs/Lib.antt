@@ -1,3 +1,4 @@
 pub mod Runs
+pub mod RunLaws
 pub mod Steps
 pub mod Answers

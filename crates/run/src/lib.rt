@@ -10,11 +10,11 @@ ghost use Rattle.field.specs.Definitions.{scalar, element};
 ghost use Rattle.records.specs.Parameters.{inBounds, batch};
 ghost use Rattle.records.specs.Bytes.{word, sender};
 ghost use Rattle.records.specs.Refusals.{setupRefusal};
-ghost use Rattle.protocol.specs.Transcript.{keyAt, nonce, passes};
+ghost use Rattle.protocol.specs.Transcript.{combinedAt, passes};
 ghost use Rattle.protocol.specs.Arrays.{elements};
 ghost use Rattle.run.specs.Runs.{fresh, begun, wellFormed, stageOf, transcriptOf, qualOf, setsOf, keyOf, phiOf, kept};
 ghost use Rattle.run.specs.Steps.{refused, answered, setupOf, afterSetup, dealingNumber, wrongShares, withDealing, afterDealing, mayBlame, complaintNumber, withComplaint, complaintStage, afterComplaint, challengesNumber, afterChallenges, responseNumber, withResponse, withRow, finished, afterResponse, stepOf};
-ghost use Rattle.run.specs.Answers.{nonceOf, signatureOf};
+ghost use Rattle.run.specs.Answers.{inBatch, nonceOf, signatureOf};
 use field::Element;
 use field::Scalar;
 use interpolation::Row;
@@ -164,10 +164,11 @@ fn wrong_shares(setup: Setup, bytes: &[u8]) -> u64
     let from = records::shares_from(setup.t, setup.a);
     let mut wrong: u64 = 0;
     for i in 0..setup.n {
-        let weights = points.weights(interpolation::point(i + 1, 0));
+        let j = i + 1;
+        let weights = points.weights(interpolation::point(j, 0));
         let share = Scalar(records::word(bytes, from, i as u16));
         if !protocol::share_fits(weights, values, share) {
-            wrong = sets::insert(wrong, i + 1);
+            wrong = sets::insert(wrong, j);
         }
     }
     wrong
@@ -179,12 +180,7 @@ fn blames_rightly(dealings: Dealings, n: u8, j: u8, mask: u32) -> bool
 {
     for i in 0..n {
         if sets::has(mask as u64, i + 1) {
-            if !sets::has(dealings.dealers, i + 1) {
-                return false;
-            }
-            let at = i as usize;
-            let wrong = if at < 32 { dealings.wrong[at] } else { 0 };
-            if !sets::has(wrong, j) {
+            if !dealings.may_blame(j, i + 1) {
                 return false;
             }
         }
@@ -214,27 +210,53 @@ impl Setup {
     {
         let key = self.key;
         let values = protocol::key_values(key, self.t, self.a);
-        interpolation::committed_points(self.a, self.t + self.a).weights(x).product(values)
+        interpolation::committed_points(self.a, self.t + self.a)
+            .weights(x)
+            .product(values)
     }
 }
 
 impl Dealings {
+    // Whether holder j may blame dealer i: i has a dealing, whose share for j is not valid.
+    fn may_blame(self, j: u8, i: u8) -> bool
+        ensures { λ r. ⌜ r ≡ mayBlame self j i ⌝ }
+    {
+        if i < 1 {
+            return false;
+        }
+        if 32 < i {
+            return false;
+        }
+        if !sets::has(self.dealers, i) {
+            return false;
+        }
+        let at = (i - 1) as usize;
+        let wrong = self.wrong[at];
+        sets::has(wrong, j)
+    }
+
     // With one more dealing.
     fn with(self, setup: Setup, bytes: &[u8]) -> Dealings
         requires { ⌜ (inBounds (setup .n) (setup .t) (setup .a) ≡ true) × (self .count ≤ 64) × (sender (now bytes) ≤ setup .n) ⌝ }
         ensures { λ r. ⌜ r ≡ withDealing setup self (now (bytes .entry)) ⌝ }
     {
+        let count = self.count + 1;
         let i = records::byte(bytes, 2);
         let before = if 0 < i { i - 1 } else { 0 };
         let list = self.commitments;
-        let commitments = load_commitments(list, before as u16 * 32, bytes, records::quorum(setup.t, setup.a));
+        let commitments = load_commitments(
+            list,
+            before as u16 * 32,
+            bytes,
+            records::quorum(setup.t, setup.a),
+        );
         let mut wrong = self.wrong;
         let at = before as usize;
         if at < 32 {
             wrong[at] = wrong_shares(setup, bytes);
         }
         Dealings {
-            count: self.count + 1,
+            count: count,
             dealers: sets::insert(self.dealers, i),
             commitments: commitments,
             wrong: wrong,
@@ -248,9 +270,10 @@ impl Complaints {
         requires { ⌜ self .count ≤ 64 ⌝ }
         ensures { λ r. ⌜ r ≡ withComplaint self (now (bytes .entry)) ⌝ }
     {
+        let rows = self.count + 1;
         let mask = records::number(bytes, 4) as u64;
         Complaints {
-            count: self.count + 1,
+            count: rows,
             holders: sets::insert(self.holders, records::byte(bytes, 2)),
             blamed: sets::union(self.blamed, mask),
         }
@@ -282,8 +305,9 @@ impl Responses {
         let list = self.numbers;
         let count = records::batch(setup.n, setup.t) as u16;
         let numbers = load_numbers(list, before as u16 * 32, bytes, count);
+        let answers = self.count + 1;
         Responses {
-            count: self.count + 1,
+            count: answers,
             responders: sets::insert(self.responders, j),
             numbers: numbers,
         }
@@ -409,7 +433,11 @@ impl Run {
         let old = self.dealings;
         let dealings = old.with(setup, bytes);
         let mut next = self;
-        next.stage = if dealings.count == setup.n - setup.t { 2 } else { 1 };
+        next.stage = if dealings.count == setup.n - setup.t {
+            2
+        } else {
+            1
+        };
         next.dealings = dealings;
         Reply {
             run: next,
@@ -562,7 +590,8 @@ impl Run {
         for x in 0..count {
             let u = (x / a as u16 + 1) as u8;
             let k = (x % a as u16 + 1) as u8;
-            signatures[x as usize] = self.interpolated(u, k);
+            let phi = self.interpolated(u, k);
+            signatures[x as usize] = phi;
         }
         let mut next = self;
         next.stage = 5;
@@ -584,7 +613,8 @@ impl Run {
         let mut next = self;
         next.stage = 4;
         next.responses = responses;
-        if responses.count as u16 == records::quorum(setup.t, setup.a) {
+        let rows = old.count as u16 + 1;
+        if rows == records::quorum(setup.t, setup.a) {
             return Reply {
                 run: next.finish(),
                 number: 0,
@@ -654,5 +684,64 @@ impl Run {
             qual: self.qual(),
             bad: self.complaints.blamed,
         }
+    }
+
+    // Whether u is from 1 to b and k from 1 to a.
+    fn in_batch(self, u: u8, k: u8) -> bool
+        ensures { λ r. ⌜ r ≡ inBatch self u k ⌝ }
+    {
+        if u < 1 {
+            return false;
+        }
+        if records::batch(self.setup.n, self.setup.t) < u {
+            return false;
+        }
+        if k < 1 {
+            return false;
+        }
+        k <= self.setup.a
+    }
+
+    // R(u,k), worked out.
+    fn combined_at(self, u: u8, x: Scalar) -> Element
+        requires { ⌜ wellFormed self ≡ true ⌝ }
+        ensures { λ r. ⌜ r ≡ combinedAt (transcriptOf self) u x ⌝ }
+    {
+        let list = self.dealings.commitments;
+        let quorum = records::quorum(self.setup.t, self.setup.a) as u8;
+        let values = protocol::combined_values(list, self.qual(), self.setup.n, quorum, u);
+        interpolation::committed_points(self.setup.a, quorum).weights(x).product(values)
+    }
+
+    // R(u,k), at stages 3, 4 and 5.
+    pub fn nonce(self, u: u8, k: u8) -> Nonce
+        ensures { λ r. ⌜ r ≡ nonceOf self u k ⌝ }
+    {
+        let stage = self.stage_of();
+        if stage < 3 {
+            return Nonce::None;
+        }
+        if 5 < stage {
+            return Nonce::None;
+        }
+        if !self.in_batch(u, k) {
+            return Nonce::None;
+        }
+        Nonce::Is(self.combined_at(u, interpolation::point(1, k)))
+    }
+
+    // φ(u,k), at stage 5.
+    pub fn signature(self, u: u8, k: u8) -> Signature
+        ensures { λ r. ⌜ r ≡ signatureOf self u k ⌝ }
+    {
+        if self.stage_of() != 5 {
+            return Signature::None;
+        }
+        if !self.in_batch(u, k) {
+            return Signature::None;
+        }
+        let at = (u - 1) as usize * self.setup.a as usize + (k - 1) as usize;
+        let list = self.signatures;
+        Signature::Is(list[at])
     }
 }

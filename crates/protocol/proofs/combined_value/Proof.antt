@@ -6,7 +6,6 @@ use mathlib.Core.Path.{_≡_, sym, ap, ap₂, _∙_}
 use Prim.Native.Nat.{ℕ, _+_, _-_, _*_, _≤_}
 use lib.ListN.{length, getD, List·getD-eq-default}
 use Rattle.sets.specs.Masks.{has}
-use Rattle.field.specs.declared.Element.{Element}
 use Rattle.field.specs.Definitions.{element, product, raise}
 use Rattle.protocol.specs.Arrays.{base, commitmentIn, combinedValue}
 use Rattle.protocol.proofs.Loops.{combined-none, combined-skip, combined-take}

@@ -1,0 +1,77 @@
+-- `Run::combined_at` meets its contract: the values combined for u, interpolated at x. Assumes nothing.
+use native.Mathlib.Omega.{arith}
+use Prim.Native.Nat.{ℕ, _≤_}
+use mathlib.Core.Path.{_≡_, refl, sym, ap, ap₂, fun-ext, _∙_}
+use mathlib.Core.Bool.{Bool}
+use mathlib.Core.List.{List}
+use Rattle.sets.specs.Masks.{has}
+use Rattle.sets.specs.MaskLaws.{has-minus}
+use Rattle.field.specs.declared.Element.{Element}
+use Rattle.interpolation.specs.declared.Row.{Row}
+use Rattle.interpolation.specs.Definitions.{committedPoint, elementAt}
+use Rattle.interpolation.specs.Rows.{listed, weightsOf, productOf}
+use Rattle.records.specs.Parameters.{quorum}
+use Rattle.records.specs.Laws.{quorum-max}
+use Rattle.protocol.specs.Arrays.{commitmentIn, elements, combinedValue}
+use Rattle.protocol.specs.ArrayLaws.{values-interpolated}
+use Rattle.protocol.specs.Combined.{combined-values}
+use Rattle.run.specs.Runs.{transcriptOf, qualOf}
+use Rattle.run.specs.RunLaws.{formed-of}
+use borrow.Author.Needs.{needs}
+use Rattle.run.proofs.Run.combined_at.Statement.{statement}
+use Rattle.run.proofs.Run.combined_at.Tie as tie
+
+quorum-requires : tie.Need-quorum-requires
+quorum-requires c κs = search needs
+
+cast-quorum : tie.Need-cast-quorum
+cast-quorum c =
+    let start = c .before .before in
+    omega (arith, c .quorum .ensures, quorum-max (formed-of (start .args .self) (start .pre) .bounds))
+
+qual-requires : tie.Need-qual-requires
+qual-requires c κs = search needs
+
+combined-values-requires : tie.Need-combined-values-requires
+combined-values-requires c κs = search needs
+
+committed-points-requires : tie.Need-committed-points-requires
+committed-points-requires c κs = search needs
+
+weights-requires : tie.Need-weights-requires
+weights-requires c κs = search needs
+
+product-requires : tie.Need-product-requires
+product-requires c κs = search needs
+
+returns : tie.Need-returns
+unfolding transcriptOf qualOf
+returns c =
+    let b = c .before .before .before .before in
+    let r = b .before .before .before .args .self in
+    let u = b .before .before .before .args .u in
+    let x = b .before .before .before .args .x in
+    let m = quorum (r .setup .t) (r .setup .a) in
+    let few : m ≤ 64 = omega (arith, quorum-max (formed-of r (b .before .before .before .pre) .bounds)) in
+    c .product .ensures
+    ∙ ap₂ productOf
+    (c .before .weights .ensures ∙ ap (λ (p : Row). weightsOf p x) (c .before .before .committed-points .ensures ∙ ap (λ (k : ℕ). listed k (committedPoint (r .setup .a))) (b .before .quorum .ensures)))
+    (c .before .before .before .combined-values .ensures
+    ∙ ap₂ (λ (s k : ℕ). elements k (combinedValue (r .setup .n) (has s) (commitmentIn (r .dealings .commitments)) u)) (b .qual .ensures) (b .before .quorum .ensures))
+    ∙ values-interpolated m (r .setup .a) _ x few
+    ∙ ap (λ (q : ℕ → Bool). elementAt (committedPoint (r .setup .a)) m (combinedValue (r .setup .n) q (commitmentIn (r .dealings .commitments)) u) x)
+    (fun-ext (has-minus (r .dealings .dealers) (r .complaints .blamed)))
+    ∙ sym (combined-values (transcriptOf r) u x)
+
+pub combined-at-spec : {M : Type 1} → statement M
+combined-at-spec =
+    tie.close
+    (tie.spec
+    quorum-requires
+    cast-quorum
+    qual-requires
+    combined-values-requires
+    committed-points-requires
+    weights-requires
+    product-requires
+    returns)

@@ -1,0 +1,82 @@
+-- `Run::nonce` meets its contract: each test settles one factor of the definition. Assumes nothing.
+use native.Mathlib.Omega.{arith}
+use borrow.Author.Tests.{le-leb, lt-leb}
+use Rattle.lists.specs.Calls.{holds, fails}
+use Prim.Native.Nat.{ℕ, _≤_, _<_}
+use mathlib.Core.Path.{refl, ap, _∙_}
+use Rattle.interpolation.specs.Definitions.{slot}
+use Rattle.protocol.specs.Transcript.{nonce, combinedAt}
+use Rattle.field.specs.declared.Scalar.{Scalar}
+use Rattle.run.specs.declared.Nonce.{Nonce}
+use Rattle.run.specs.declared.Nonce.the-variants as N
+use Rattle.run.specs.Runs.{stageOf, transcriptOf}
+use Rattle.run.specs.RunLaws.{stage-live}
+use Rattle.run.specs.Answers.{inBatch, nonceOf}
+use borrow.Author.Needs.{needs}
+use Rattle.run.proofs.Run.nonce.Statement.{statement}
+use Rattle.run.proofs.Run.nonce.Tie as tie
+
+stage-of-requires : tie.Need-stage-of-requires
+stage-of-requires c κs = search needs
+
+returns : tie.Need-returns
+unfolding nonceOf
+returns c =
+    let r = c .before .before .args .self in
+    let l : stageOf r < 3 = rw (c .before .stage-of .ensures) at (c .if1 .taken) in
+    rw (lt-leb 3 (stageOf r) l)
+
+returns-2 : tie.Need-returns-2
+unfolding nonceOf
+returns-2 c =
+    let r = c .before .before .before .args .self in
+    let l : 3 ≤ stageOf r = rw (c .before .before .stage-of .ensures) at (c .before .if1 .left) in
+    let h : 5 < stageOf r = rw (c .before .before .stage-of .ensures) at (c .if2 .taken) in
+    rw (le-leb 3 (stageOf r) l, lt-leb (stageOf r) 5 h)
+
+in-batch-requires : tie.Need-in-batch-requires
+in-batch-requires c κs = search needs
+
+returns-3 : tie.Need-returns-3
+unfolding nonceOf
+returns-3 c =
+    let stage = c .before .before .before .before in
+    let r = stage .before .args .self in
+    let l : 3 ≤ stageOf r = rw (stage .stage-of .ensures) at (c .before .before .before .if1 .left) in
+    let h : stageOf r ≤ 5 = rw (stage .stage-of .ensures) at (c .before .before .if2 .left) in
+    rw (le-leb 3 (stageOf r) l, le-leb (stageOf r) 5 h, fails (c .before .in-batch .ensures) (c .if3 .taken))
+
+point-requires : tie.Need-point-requires
+point-requires c κs = search needs
+
+combined-at-requires : tie.Need-combined-at-requires
+combined-at-requires c κs =
+    let stage = c .before .before .before .before .before in
+    let r = stage .before .args .self in
+    let l : 3 ≤ stageOf r = rw (stage .stage-of .ensures) at (c .before .before .before .before .if1 .left) in
+    let h : stageOf r ≤ 5 = rw (stage .stage-of .ensures) at (c .before .before .before .if2 .left) in
+    stage-live r (stageOf r) refl (omega arith) (omega arith) .1
+
+returns-4 : tie.Need-returns-4
+unfolding nonceOf nonce
+returns-4 c =
+    let stage = c .before .before .before .before .before .before in
+    let r = stage .before .args .self in
+    let u = stage .before .args .u in
+    let l : 3 ≤ stageOf r = rw (stage .stage-of .ensures) at (c .before .before .before .before .before .if1 .left) in
+    let h : stageOf r ≤ 5 = rw (stage .stage-of .ensures) at (c .before .before .before .before .if2 .left) in
+    rw (le-leb 3 (stageOf r) l, le-leb (stageOf r) 5 h, holds (c .before .before .before .in-batch .ensures) (c .before .before .if3 .left))
+    (ap N.Is (c .combined-at .ensures ∙ ap (combinedAt (transcriptOf r) u) (c .before .point .ensures)))
+
+pub nonce-spec : {M : Type 1} → statement M
+nonce-spec =
+    tie.close
+    (tie.spec
+    stage-of-requires
+    returns
+    returns-2
+    in-batch-requires
+    returns-3
+    point-requires
+    combined-at-requires
+    returns-4)

@@ -1,0 +1,109 @@
+-- `Run::signature` meets its contract: the number that is kept at the place of (u,k), which is among the 512. Assumes nothing.
+use borrow.Author.Needs.{needs}
+use borrow.Author.Tests.{leb-true}
+use native.Mathlib.Omega.{arith}
+use native.Mathlib.Nat.{mul-comm}
+use Prim.Native.Nat.{ℕ, _+_, _*_, _-_, _≤_, _<_}
+use mathlib.Core.Path.{_≡_, refl, sym, _∙_}
+use mathlib.Core.Bool.{true, and-eq-true-iff}
+use lib.Arith.{digits-lt}
+use lib.Dec.{leb}
+use Rattle.lists.specs.Calls.{holds, fails, is, is-not}
+use Rattle.records.specs.Parameters.{batch}
+use Rattle.records.specs.Laws.{cells-max}
+use Rattle.protocol.specs.Arrays.{cell}
+use Rattle.run.specs.declared.Run.{Run}
+use Rattle.run.specs.Runs.{stageOf, kept}
+use Rattle.run.specs.RunLaws.{formed-of, stage-live}
+use Rattle.run.specs.Answers.{inBatch, signatureOf}
+use Rattle.run.proofs.Run.signature.Statement.{statement}
+use Rattle.run.proofs.Run.signature.Tie as tie
+
+-- (u,k) of the batch of a run at stage 5: both are at least 1, and their place is among the 512
+placed : (r : Run) (u k : ℕ) → stageOf r ≡ 5 → inBatch r u k ≡ true → (1 ≤ u) × (1 ≤ k) × ((u - 1) * r .setup .a + (k - 1) < 512)
+unfolding inBatch
+placed r u k e h =
+    let p = and-eq-true-iff _ _ .0 h in
+    let pu = and-eq-true-iff _ _ .0 (p .0) in
+    let pk = and-eq-true-iff _ _ .0 (p .1) in
+    let u-pos : 1 ≤ u = leb-true 1 u (pu .0) in
+    let u-max : u ≤ batch (r .setup .n) (r .setup .t) = leb-true u _ (pu .1) in
+    let k-pos : 1 ≤ k = leb-true 1 k (pk .0) in
+    let k-max : k ≤ r .setup .a = leb-true k _ (pk .1) in
+    let b = formed-of r (stage-live r 5 e (omega arith) (omega arith) .1) .bounds in
+    let in-batch : u - 1 < batch (r .setup .n) (r .setup .t) = omega arith in
+    let in-slots : k - 1 < r .setup .a = omega arith in
+    (u-pos, k-pos, omega (arith, digits-lt in-batch in-slots, cells-max b, mul-comm (r .setup .a) (batch (r .setup .n) (r .setup .t))))
+
+stage-of-requires : tie.Need-stage-of-requires
+stage-of-requires c κs = search needs
+
+returns : tie.Need-returns
+unfolding signatureOf
+returns c = rw (is-not (c .before .stage-of .ensures) (c .if1 .taken))
+
+in-batch-requires : tie.Need-in-batch-requires
+in-batch-requires c κs = search needs
+
+returns-2 : tie.Need-returns-2
+unfolding signatureOf
+returns-2 c =
+    rw (is (c .before .before .before .stage-of .ensures) (c .before .before .if1 .left), fails (c .before .in-batch .ensures) (c .if2 .taken))
+
+here : (c : tie.Else2) → let a = c .before .before .before .before .args in
+    (1 ≤ a .u) × (1 ≤ a .k) × ((a .u - 1) * a .self .setup .a + (a .k - 1) < 512)
+here c =
+    let stage = c .before .before .before in
+    placed _ _ _ (sym (stage .stage-of .ensures) ∙ c .before .before .if1 .left) (holds (c .before .in-batch .ensures) (c .if2 .left))
+
+sub-at : tie.Need-sub-at
+sub-at c = here c .0
+
+cast-at : tie.Need-cast-at
+cast-at c = search needs
+
+cast-at-2 : tie.Need-cast-at-2
+cast-at-2 c = search needs
+
+mul-at : tie.Need-mul-at
+mul-at c = omega (arith, here (c .before) .2)
+
+sub-at-2 : tie.Need-sub-at-2
+sub-at-2 c = here (c .before) .1
+
+cast-at-3 : tie.Need-cast-at-3
+cast-at-3 c = search needs
+
+add-at : tie.Need-add-at
+add-at c = omega (arith, here (c .before) .2)
+
+mul-t9 : tie.Need-mul-t9
+mul-t9 c = omega (arith, here (c .before .before) .2)
+
+array-copy-out-t16 : tie.Need-array-copy-out-t16
+array-copy-out-t16 c = omega (arith, here (c .before .before) .2)
+
+returns-3 : tie.Need-returns-3
+unfolding signatureOf kept cell
+returns-3 c =
+    let e = c .before .before .before in
+    rw (is (e .before .before .before .stage-of .ensures) (e .before .before .if1 .left), holds (e .before .in-batch .ensures) (e .if2 .left)) refl
+
+pub signature-spec : {M : Type 1} → statement M
+signature-spec =
+    tie.close
+    (tie.spec
+    stage-of-requires
+    returns
+    in-batch-requires
+    returns-2
+    sub-at
+    cast-at
+    cast-at-2
+    mul-at
+    sub-at-2
+    cast-at-3
+    add-at
+    mul-t9
+    array-copy-out-t16
+    returns-3)

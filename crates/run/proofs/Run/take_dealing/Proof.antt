@@ -1,0 +1,60 @@
+-- `Run::take_dealing` meets its contract. Assumes nothing.
+use borrow.Author.Needs.{needs}
+use borrow.Author.Tests.{eq-eqb, ne-eqb}
+use native.Mathlib.Omega.{arith}
+use mathlib.Core.Logic.{⊎-elim}
+use mathlib.Core.Path.{_≡_, ap, sym, _∙_}
+use Prim.Native.Nat.{_+_, _-_}
+use lib.Dec.{eqb}
+use Rattle.lists.specs.Tests.{pick}
+use Rattle.records.specs.Laws.{bounds-test, dealing-passed}
+use Rattle.run.specs.declared.Dealings.{Dealings}
+use Rattle.run.specs.Steps.{dealingNumber, withDealing, afterDealing}
+use Rattle.run.specs.RunLaws.{formed-of}
+use Rattle.run.proofs.Numbers.{first-none}
+use Rattle.run.proofs.Run.take_dealing.Statement.{statement}
+use Rattle.run.proofs.Run.take_dealing.Tie as tie
+
+dealing-number-requires : tie.Need-dealing-number-requires
+dealing-number-requires c κs = search needs
+
+refuse-requires : tie.Need-refuse-requires
+refuse-requires c κs = search needs
+
+returns : tie.Need-returns
+returns c = c .refuse .ensures ∙ rw (← c .before .before .dealing-number .ensures, ne-eqb _ _ (c .before .if1 .taken))
+
+with-requires : tie.Need-with-requires
+unfolding dealingNumber
+with-requires c κs =
+    let passed = c .before .before in
+    let start = passed .before .before .before in
+    let r = start .args .self in
+    let formed = formed-of r (start .pre) in
+    let none = first-none _ _ (sym (passed .before .dealing-number .ensures) ∙ passed .if1 .left) in
+    (bounds-test (formed .bounds), omega arith, dealing-passed (r .setup .n) (r .setup .t) (r .setup .a) (start .args .bytes .now) none .sender-max)
+
+sub-if2 : tie.Need-sub-if2
+sub-if2 c =
+    let start = c .before .before .before .before .before .before .before in
+    let bounds = formed-of (start .args .self) (start .pre) .bounds in
+    omega (arith, bounds .enough)
+
+returns-2 : tie.Need-returns-2
+unfolding afterDealing withDealing
+returns-2 c =
+    let taken = c .before .before .before in
+    let passed = taken .before .before .before in
+    let r = passed .before .before .before .args .self in
+    let more : taken .with .result .count ≡ r .dealings .count + 1 = ap (λ (d : Dealings). d .count) (taken .with .ensures) in
+    let stage : c .if2 .next ≡ pick (eqb (r .dealings .count + 1) (r .setup .n - r .setup .t)) 2 1 =
+    ⊎-elim
+    (λ w. w .1 ∙ rw (eq-eqb _ _ (sym more ∙ w .0 .taken)))
+    (λ w. w .1 ∙ rw (ne-eqb _ _ (λ e. w .0 .left (more ∙ e))))
+    (c .if2 .came) in
+    rw (← passed .before .dealing-number .ensures, passed .if1 .left, stage, taken .with .ensures)
+
+pub take-dealing-spec : {M : Type 1} → statement M
+take-dealing-spec =
+    tie.close
+    (tie.spec dealing-number-requires refuse-requires returns with-requires sub-if2 returns-2)

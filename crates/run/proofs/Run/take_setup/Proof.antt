@@ -1,0 +1,39 @@
+-- `Run::take_setup` meets its contract. Assumes nothing.
+use borrow.Author.Tests.{ne-eqb}
+use borrow.Author.Needs.{needs}
+use mathlib.Core.Path.{_∙_}
+use Rattle.run.specs.Steps.{afterSetup}
+use Rattle.run.proofs.Run.take_setup.Statement.{statement}
+use Rattle.run.proofs.Run.take_setup.Tie as tie
+
+setup-refusal-requires : tie.Need-setup-refusal-requires
+setup-refusal-requires c κs = search needs
+
+refuse-requires : tie.Need-refuse-requires
+refuse-requires c κs = search needs
+
+returns : tie.Need-returns
+returns c = c .refuse .ensures ∙ rw (← c .before .before .setup-refusal .ensures, ne-eqb _ _ (c .before .if1 .taken))
+
+read-requires : tie.Need-read-requires
+read-requires c κs = search needs
+
+begun-requires : tie.Need-begun-requires
+begun-requires c κs = search needs
+
+returns-2 : tie.Need-returns-2
+unfolding afterSetup
+returns-2 c =
+    let passed = c .before .before in
+    rw (← passed .before .setup-refusal .ensures, passed .if1 .left, c .begun .ensures, c .before .read .ensures)
+
+pub take-setup-spec : {M : Type 1} → statement M
+take-setup-spec =
+    tie.close
+    (tie.spec
+    setup-refusal-requires
+    refuse-requires
+    returns
+    read-requires
+    begun-requires
+    returns-2)

@@ -1,0 +1,37 @@
+-- `Run::well_formed` meets its contract: each test settles one factor of the definition. Assumes nothing.
+use borrow.Author.Tests.{not-true, not-false, le-leb, lt-leb}
+use borrow.Author.Needs.{needs}
+use Rattle.run.specs.Runs.{wellFormed}
+use Rattle.run.proofs.Run.well_formed.Statement.{statement}
+use Rattle.run.proofs.Run.well_formed.Tie as tie
+
+in-bounds-requires : tie.Need-in-bounds-requires
+in-bounds-requires c κs = search needs
+
+returns : tie.Need-returns
+unfolding wellFormed
+returns c = rw (← c .before .in-bounds .ensures, not-true (c .before .in-bounds .result) (c .if1 .taken))
+
+returns-2 : tie.Need-returns-2
+unfolding wellFormed
+returns-2 c =
+    let bounds = c .before .before in
+    rw (← bounds .before .in-bounds .ensures, not-false (bounds .before .in-bounds .result) (bounds .if1 .left), lt-leb _ _ (c .if2 .taken))
+
+returns-3 : tie.Need-returns-3
+unfolding wellFormed
+returns-3 c =
+    let dealings = c .before .before in
+    let bounds = dealings .before .before in
+    rw (← bounds .before .in-bounds .ensures, not-false (bounds .before .in-bounds .result) (bounds .if1 .left), le-leb _ _ (dealings .if2 .left), lt-leb _ _ (c .if3 .taken))
+
+returns-4 : tie.Need-returns-4
+unfolding wellFormed
+returns-4 c =
+    let complaints = c .before in
+    let dealings = complaints .before .before in
+    let bounds = dealings .before .before in
+    rw (← bounds .before .in-bounds .ensures, not-false (bounds .before .in-bounds .result) (bounds .if1 .left), le-leb _ _ (dealings .if2 .left), le-leb _ _ (complaints .if3 .left))
+
+pub well-formed-spec : {M : Type 1} → statement M
+well-formed-spec = tie.close (tie.spec in-bounds-requires returns returns-2 returns-3 returns-4)

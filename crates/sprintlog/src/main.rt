@@ -1,0 +1,21 @@
+// The program sprintlog: the log on standard input, its page on standard output. What it says when it cannot read or write goes to standard error.
+fn main() {
+    let mut log = [0u8; 65537];
+    let got = io::read_full(0, &mut log);
+    let mut more = [0u8; 1];
+    if got < 65537 {
+        // The input has ended here, unless a read failed.
+        if libc::read(0, &mut more) != 0 {
+            io::write_all(2, b"sprintlog: the log could not be read\n");
+            return;
+        }
+    }
+    let mut page = [0u8; 300000];
+    let size = log::report(&log[..got], &mut page);
+    if page.len() < size {
+        return;
+    }
+    if !io::write_all(1, &page[..size]) {
+        io::write_all(2, b"sprintlog: the page could not be written whole\n");
+    }
+}
