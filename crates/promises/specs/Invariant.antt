@@ -24,7 +24,8 @@ use Rattle.run.specs.declared.Dealings.{Dealings}
 use Rattle.run.specs.declared.Complaints.{Complaints}
 use Rattle.run.specs.declared.Responses.{Responses}
 use Rattle.run.specs.declared.Run.{Run}
-use Rattle.run.specs.Runs.{noSetup, base, wellFormed, stageOf, transcriptOf, phiOf}
+use Rattle.protocol.specs.Arrays.{base}
+use Rattle.run.specs.Runs.{noSetup, wellFormed, stageOf, transcriptOf, phiOf}
 use Rattle.run.specs.Steps.{setupOf, wrongShares}
 use Rattle.promises.specs.Lists.{ofTag, first, some, sentBy, recordOf}
 use Rattle.promises.specs.ListLaws.{recordOf-all}
@@ -131,7 +132,7 @@ module _ (r : Run) (f : Tag → List (List ℕ)) (h : Live r f) where
   unfolding wellFormed
   live-well-formed =
       and-eq-true-iff _ _ .1 (
-        bounds-test _ _ _ live-bounds,
+        bounds-test live-bounds,
         and-eq-true-iff _ _ .1 (
           le-leb _ _ (senders-max (h .dealings .senders)),
           and-eq-true-iff _ _ .1

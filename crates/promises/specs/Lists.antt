@@ -13,7 +13,8 @@ use Rattle.records.specs.Bytes.{byteAt, numberAt, word, sender}
 use Rattle.records.specs.Tags.{Tag, SU, DE, VE, CH, RE, code, tagOf}
 use Rattle.run.specs.declared.Run.{Run}
 use Rattle.protocol.specs.Transcript.{Transcript}
-use Rattle.run.specs.Runs.{fresh, cell}
+use Rattle.protocol.specs.Arrays.{cell}
+use Rattle.run.specs.Runs.{fresh}
 use Rattle.run.specs.Steps.{stepOf}
 
 -- the accepted records of a list that is given to r: those that are answered with 0, reading on after refusals

@@ -12,7 +12,8 @@ use Rattle.records.specs.Tags.{SU, CH}
 use Rattle.protocol.specs.Alike.{Alike}
 use Rattle.protocol.specs.Signature.{Sound}
 use Rattle.run.specs.declared.Setup.{Setup}
-use Rattle.run.specs.Runs.{cell, wellFormed, stageOf, transcriptOf}
+use Rattle.protocol.specs.Arrays.{cell}
+use Rattle.run.specs.Runs.{wellFormed, stageOf, transcriptOf}
 use Rattle.run.specs.Steps.{setupOf, after}
 use Rattle.promises.specs.Lists.{accepted, ofTag, first, dealer, hold, bad, qualified, read}
 use Rattle.promises.specs.Places.{cell-lt}

@@ -5,7 +5,7 @@ use native.Mathlib.Omega.{arith}
 use native.Mathlib.Nat.{add-comm, add-mul-div-right, add-mul-mod-self-right, div-eq-of-lt, mod-eq-of-lt, mul-le-mul-left}
 use Rattle.records.specs.Parameters.{batch}
 use Rattle.protocol.specs.Transcript.{Transcript}
-use Rattle.run.specs.Runs.{cell}
+use Rattle.protocol.specs.Arrays.{cell}
 
 -- u is from 1 to b, and k from 1 to a
 pub record Within (w : Transcript) (u k : ℕ) : Type 0 where

@@ -15,7 +15,7 @@ use Rattle.sets.specs.Masks.{has, insert, count}
 use Rattle.sets.specs.MaskLaws.{has-zero, has-insert}
 use Rattle.sets.specs.MemberLaws.{no-members, more-members, count-le}
 use Rattle.records.specs.Bytes.{byteAt, numberAt, word, sender}
-use Rattle.run.specs.Runs.{base}
+use Rattle.protocol.specs.Arrays.{base}
 use Rattle.promises.specs.Lists.{some, sentBy, recordOf}
 use Rattle.promises.specs.ListLaws.{snoc, some-snoc, none-sent, recordOf-new, recordOf-other}
 
