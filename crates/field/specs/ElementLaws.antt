@@ -20,6 +20,11 @@ pub 1<P : 1 < P
 unfolding P
 1<P = lit< tt
 
+-- an element has four bytes
+pub P<word : P < 2 ^ 32
+unfolding P
+P<word = lit< tt
+
 pub 0<P : 0 < P
 0<P = omega (arith, 1<P)
 

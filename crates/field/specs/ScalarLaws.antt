@@ -26,6 +26,11 @@ pub small<q : 100000 < q
 unfolding q
 small<q = lit< tt
 
+-- a scalar has four bytes
+pub q<word : q < 2 ^ 32
+unfolding q
+q<word = lit< tt
+
 pub 0<q : 0 < q
 0<q = omega (arith, 1<q)
 

@@ -24,7 +24,7 @@ unfolding scalars
 scalars-at m f i l h = stored-from (filled 64 (scalar 0)) m f (scalar 0) (omega (arith, length-filled 64 (scalar 0))) i l
 
 -- scalars at any points, by their weights at x
-scalars-interpolated : (m : ℕ) (pt f : ℕ → Scalar) (x : Scalar) → m ≤ 64 → sumOf (weightsOf (listed m pt) x) (scalars m f) ≡ scalarAt pt m f x
+pub scalars-interpolated : (m : ℕ) (pt f : ℕ → Scalar) (x : Scalar) → m ≤ 64 → sumOf (weightsOf (listed m pt) x) (scalars m f) ≡ scalarAt pt m f x
 scalars-interpolated m pt f x h =
     sum-weights m pt x (scalars m f) h ∙ scalarAt-cong pt pt m (λ i. getD (scalars m f) i (scalar 0)) f x (λ i l. refl) (λ i l. scalars-at m f i l h)
 

@@ -1,18 +1,19 @@
 // The writers: an honest party's records, each written whole into a buffer that the caller lends, or refused with the buffer as it was.
 ghost use mathlib.Core.Path.{_≡_};
 ghost use mathlib.Core.Bool.{true, not, _||_};
-ghost use Prim.Native.Nat.{ℕ, _+_, _-_, _*_, _≤_, _<_};
+ghost use Prim.Native.Nat.{_+_, _*_, _≤_};
 ghost use lib.ListN.{length, getD};
 ghost use lib.Dec.{eqb};
 ghost use lib.Seq.{sets};
 ghost use Rattle.lists.specs.Tests.{pick, allTo};
 ghost use Rattle.sets.specs.Masks.{has, maskOf};
 ghost use Rattle.field.specs.Definitions.{scalar, isScalar};
-ghost use Rattle.records.specs.Parameters.{inBounds, quorum, batch};
+ghost use Rattle.records.specs.Parameters.{mostParties, inBounds, quorum, batch};
 ghost use Rattle.protocol.specs.Arrays.{scalars};
-ghost use Rattle.run.specs.Runs.{wellFormed, transcriptOf, qualOf};
+ghost use Rattle.run.specs.Runs.{wellFormed};
 ghost use Rattle.run.specs.Steps.{mayBlame};
 ghost use Rattle.writers.specs.Bytes.{four, fours};
+ghost use Rattle.writers.specs.WriterLaws.{sharesRefused};
 ghost use Rattle.writers.specs.Writers.{powerOfFour, setupRefused, setupBytes, dealingRefused, shareFor, dealingBytes, complaintRefused, complaintBytes, responseRefused, combinedShare, responseFor, responseBytes};
 use field::Element;
 use field::Scalar;
@@ -54,16 +55,15 @@ fn all_scalars(list: &[u32]) -> bool
     true
 }
 
-// The first 64 numbers of a list as scalars.
+// The numbers of a list as scalars.
 fn load_scalars(list: &[u32]) -> [Scalar; 64]
+    requires { ⌜ length (now list) ≤ 64 ⌝ }
     ensures { λ r. ⌜ r ≡ scalars (length (now (list .entry))) (λ i. scalar (getD (now (list .entry)) i 0)) ⌝ }
 {
-    let mut values = [Scalar::ZERO; 64];
     let count = list.len();
+    let mut values = [Scalar::ZERO; 64];
     for i in 0..count {
-        if i < 64 {
-            values[i] = Scalar(list[i]);
-        }
+        values[i] = Scalar(list[i]);
     }
     values
 }
@@ -165,17 +165,16 @@ pub fn write_dealing(n: u8, t: u8, a: u8, i: u8, values: &[u32], out: &mut [u8])
 
 // The accepted dealers whose share for j is not valid.
 fn wrong_dealers(run: Run, j: u8) -> u64
-    requires { ⌜ run .setup .n ≤ 64 ⌝ }
+    requires { ⌜ run .setup .n ≤ mostParties ⌝ }
     ensures { λ r. ⌜ r ≡ maskOf (run .setup .n) (mayBlame (run .dealings) j) ⌝ }
 {
+    let n = run.setup.n;
     let dealers = run.dealings.dealers;
     let list = run.dealings.wrong;
     let mut mask: u64 = 0;
-    for i in 0..run.setup.n {
-        let at = i as usize;
-        let wrong = if at < 32 { list[at] } else { 0 };
+    for i in 0..n {
         if sets::has(dealers, i + 1) {
-            if sets::has(wrong, j) {
+            if sets::has(list[i as usize], j) {
                 mask = sets::insert(mask, i + 1);
             }
         }
@@ -216,19 +215,48 @@ pub fn write_complaint(run: Run, j: u8, out: &mut [u8]) -> u8
     0
 }
 
+// Whether dealer i's share is a scalar, or is not read: i is not in QUAL.
+fn share_in_range(qual: u64, i: u8, share: u32) -> bool
+    ensures { λ r. ⌜ r ≡ (not (has qual i) || isScalar share) ⌝ }
+{
+    if sets::has(qual, i) {
+        Scalar::accepts(share)
+    } else {
+        true
+    }
+}
+
 // Whether the shares of QUAL are scalars.
-fn shares_fit(qual: u64, n: u8, shares: &[u32]) -> bool
+fn shares_in_range(qual: u64, n: u8, shares: &[u32]) -> bool
     requires { ⌜ length (now shares) ≡ n ⌝ }
     ensures { λ r. ⌜ r ≡ allTo n (λ i. not (has qual (i + 1)) || isScalar (getD (now (shares .entry)) i 0)) ⌝ }
 {
     for i in 0..n {
-        if sets::has(qual, i + 1) {
-            if !Scalar::accepts(shares[i as usize]) {
-                return false;
-            }
+        if !share_in_range(qual, i + 1, shares[i as usize]) {
+            return false;
         }
     }
     true
+}
+
+// The refusal of F(j) and the shares, or 0.
+fn shares_refused(run: Run, key: u32, shares: &[u32], room: usize) -> u8
+    ensures { λ r. ⌜ r ≡ sharesRefused run key (now (shares .entry)) room ⌝ }
+{
+    let n = run.setup.n;
+    if shares.len() != n as usize {
+        return 10;
+    }
+    if !Scalar::accepts(key) {
+        return 6;
+    }
+    if !shares_in_range(run.qual(), n, shares) {
+        return 6;
+    }
+    if room != records::response_length(n, run.setup.t) {
+        return 9;
+    }
+    0
 }
 
 fn response_refused(run: Run, j: u8, key: u32, shares: &[u32], room: usize) -> u8
@@ -243,19 +271,7 @@ fn response_refused(run: Run, j: u8, key: u32, shares: &[u32], room: usize) -> u
     if !sets::has(run.complaints.holders, j) {
         return 14;
     }
-    if shares.len() != run.setup.n as usize {
-        return 10;
-    }
-    if !Scalar::accepts(key) {
-        return 6;
-    }
-    if !shares_fit(run.qual(), run.setup.n, shares) {
-        return 6;
-    }
-    if room != records::response_length(run.setup.n, run.setup.t) {
-        return 9;
-    }
-    0
+    shares_refused(run, key, shares, room)
 }
 
 // H_u(j): the sum over QUAL of i^(u-1) × share.
@@ -273,6 +289,25 @@ fn combined_share(qual: u64, n: u8, shares: &[u32], u: u8) -> Scalar
     sum
 }
 
+// The response numbers of j for 1 to b.
+fn put_responses(out: &mut [u8], run: Run, j: u8, key: u32, shares: &[u32])
+    requires { ⌜ (wellFormed run ≡ true) × (length (now shares) ≡ run .setup .n) × (4 + 4 * batch (run .setup .n) (run .setup .t) ≤ length (now out)) ⌝ }
+    ensures { λ _. ⌜ now (out .exit) ≡ sets (now (out .entry)) 4 (fours (batch (run .setup .n) (run .setup .t)) (λ u. responseFor run j key (now (shares .entry)) (u + 1) .0)) ⌝ }
+{
+    let n = run.setup.n;
+    let a = run.setup.a;
+    let count = records::batch(n, run.setup.t);
+    let qual = run.qual();
+    let challenges = run.challenges;
+    let weights = interpolation::slot_points(a).weights(interpolation::point(j, 0));
+    for u in 0..count {
+        let share = combined_share(qual, n, shares, u + 1);
+        let challenge = weights.sum(protocol::challenge_values(challenges, a, u + 1));
+        let number = share.add(challenge.mul(Scalar(key)));
+        put(out, 4 + 4 * u as usize, number.0);
+    }
+}
+
 // RE, from a run, j, F(j) and n shares by dealer number.
 pub fn write_response(run: Run, j: u8, key: u32, shares: &[u32], out: &mut [u8]) -> u8
     ensures number { λ r. ⌜ r ≡ responseRefused run j key (now (shares .entry)) (length (now (out .entry))) ⌝ }
@@ -288,21 +323,4 @@ pub fn write_response(run: Run, j: u8, key: u32, shares: &[u32], out: &mut [u8])
     out[3] = 0;
     put_responses(out, run, j, key, shares);
     0
-}
-
-// The response numbers of j for 1 to b.
-fn put_responses(out: &mut [u8], run: Run, j: u8, key: u32, shares: &[u32])
-    requires { ⌜ (wellFormed run ≡ true) × (length (now shares) ≡ run .setup .n) × (4 + 4 * batch (run .setup .n) (run .setup .t) ≤ length (now out)) ⌝ }
-    ensures { λ _. ⌜ now (out .exit) ≡ sets (now (out .entry)) 4 (fours (batch (run .setup .n) (run .setup .t)) (λ u. responseFor run j key (now (shares .entry)) (u + 1) .0)) ⌝ }
-{
-    let setup = run.setup;
-    let qual = run.qual();
-    let challenges = run.challenges;
-    let weights = interpolation::slot_points(setup.a).weights(interpolation::point(j, 0));
-    for u in 0..records::batch(setup.n, setup.t) {
-        let share = combined_share(qual, setup.n, shares, u + 1);
-        let challenge = weights.sum(protocol::challenge_values(challenges, setup.a, u + 1));
-        let number = share.add(challenge.mul(Scalar(key)));
-        put(out, 4 + 4 * u as usize, number.0);
-    }
 }

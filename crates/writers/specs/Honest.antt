@@ -1,0 +1,66 @@
+-- An honest party's numbers are right: a dealing's shares are valid, and a response number passes. Assumes nothing.
+use mathlib.Core.Path.{_≡_, refl, ap, ap₂, _∙_}
+use mathlib.Core.Bool.{Bool, true, false}
+use mathlib.Core.List.{List}
+use Prim.Native.Nat.{ℕ, _+_, _-_, _≤_, _<_}
+use native.Mathlib.Omega.{arith}
+use borrow.Author.Tests.{eqb-true, eq-eqb}
+use lib.ListN.{getD}
+use Rattle.algebra.specs.Fold.{fold-cong, fold-hom}
+use Rattle.lists.specs.Tests.{pick}
+use Rattle.field.specs.declared.Scalar.{Scalar}
+use Rattle.field.specs.declared.Element.{Element}
+use Rattle.field.specs.Definitions.{scalar, element, generator, plus, times, product, raise}
+use Rattle.field.specs.ScalarLaws.{times-comm}
+use Rattle.field.specs.ElementLaws.{generator-element, raise-zero, raise-plus, raise-times}
+use Rattle.interpolation.specs.Definitions.{party, committedPoint}
+use Rattle.interpolation.specs.Laws.{raise-scalarAt}
+use Rattle.records.specs.Parameters.{quorum}
+use Rattle.protocol.specs.Transcript.{Transcript, dealingAt, validShare, coefficient, keyAt, combinedAt, challengeAt, responseAt, passes}
+use Rattle.writers.specs.Writers.{shareFor, combinedShare}
+
+-- 4^(share for j) is what the committed values come to at j
+pub share-valid : (t a : ℕ) (values : List ℕ) (j : ℕ) → validShare t a (λ v. raise generator (scalar (getD values v 0))) j (shareFor t a values j) ≡ true
+unfolding validShare dealingAt shareFor
+share-valid t a values j =
+    eq-eqb _ _ (ap (λ (v : Element). v .0) (raise-scalarAt generator generator-element (committedPoint a) (quorum t a) (λ v. scalar (getD values v 0)) (party j)))
+
+valid-is : (t a : ℕ) (values : ℕ → Element) (j : ℕ) (share : Scalar) → validShare t a values j share ≡ true → raise generator share ≡ dealingAt t a values (party j)
+unfolding validShare
+valid-is t a values j share e = ap element (eqb-true _ _ e)
+
+-- 4^(x y) = (4^y)^x
+power-times : (x y : Scalar) → raise generator (times x y) ≡ raise (raise generator y) x
+power-times x y = ap (raise generator) (times-comm x y) ∙ raise-times generator generator-element y x
+
+module _ (w : Transcript) (j : ℕ) (shares : List ℕ) where
+  -- the shares of QUAL are right
+  abbrev pub RightShares : Type 0
+  RightShares = (i : ℕ) → 0 < i → i ≤ w .n → w .qual i ≡ true → validShare (w .t) (w .a) (w .commitment i) j (scalar (getD shares (i - 1) 0)) ≡ true
+
+  -- 4^H_u(j) = C_u(j)
+  combined-is : RightShares → (u : ℕ) → raise generator (combinedShare (w .n) (w .qual) shares u) ≡ combinedAt w u (party j)
+  unfolding combinedShare combinedAt
+  combined-is right u =
+      fold-hom plus (scalar 0) product (element 1) (raise generator) (raise-zero generator) (raise-plus generator generator-element) (w .n) (λ i. part i (w .qual (i + 1)))
+      ∙ fold-cong product (element 1) (w .n) (λ i l. go i l (w .qual (i + 1)) (λ e. e))
+    where
+      part : ℕ → Bool → Scalar
+      part i b = pick b (times (coefficient (i + 1) u) (scalar (getD shares i 0))) (scalar 0)
+
+      go : (i : ℕ) → i < w .n → (b : Bool) → (b ≡ true → w .qual (i + 1) ≡ true)
+          → raise generator (part i b) ≡ pick b (raise (dealingAt (w .t) (w .a) (w .commitment (i + 1)) (party j)) (coefficient (i + 1) u)) (element 1)
+      go i l true e =
+          let place : i + 1 - 1 ≡ i = omega arith in
+          power-times (coefficient (i + 1) u) (scalar (getD shares i 0))
+          ∙ ap (λ (v : Element). raise v (coefficient (i + 1) u)) (valid-is (w .t) (w .a) (w .commitment (i + 1)) j (scalar (getD shares i 0)) (rw place at (right (i + 1) (omega arith) (omega arith) (e refl))))
+      go i l false e = raise-zero generator
+
+  -- 4^(H_u(j) + E_u(j) × F(j)) = C_u(j) × S_j^E_u(j)
+  pub number-passes : RightShares → (key : ℕ) → raise generator (scalar key) ≡ keyAt w (party j)
+      → (u : ℕ) → passes w u j (plus (combinedShare (w .n) (w .qual) shares u) (times (challengeAt w u (party j)) (scalar key))) ≡ true
+  unfolding passes responseAt
+  number-passes right key own u =
+      eq-eqb _ _ (ap (λ (v : Element). v .0)
+      (raise-plus generator generator-element _ _
+      ∙ ap₂ product (combined-is right u) (power-times (challengeAt w u (party j)) (scalar key) ∙ ap (λ (v : Element). raise v (challengeAt w u (party j))) own)))

@@ -1,0 +1,139 @@
+-- What a writer that does not refuse knows.
+-- Assumes nothing.
+use mathlib.Core.Path.{_≡_, fun-ext}
+use mathlib.Core.Bool.{true, not, _&&_, _||_}
+use mathlib.Core.List.{List}
+use Prim.Native.Nat.{ℕ, _+_, _^_, _≤_, _<_}
+use native.Mathlib.Omega.{arith}
+use native.Mathlib.Nat.{le-trans}
+use lib.Pow.{pow-mono}
+use lib.ListN.{length, getD}
+use lib.Dec.{eqb}
+use borrow.Author.Tests.{eqb-true}
+use Rattle.lists.specs.Tests.{allTo, require, passed}
+use Rattle.sets.specs.Masks.{has, maskOf}
+use Rattle.sets.specs.MaskLaws.{has-minus, maskOf-lt}
+use Rattle.field.specs.Definitions.{isScalar}
+use Rattle.records.specs.Parameters.{quorum}
+use Rattle.records.specs.Tags.{setupLength, dealingLength, complaintLength, responseLength}
+use Rattle.records.specs.Laws.{Bounds, bounds-of, party-of}
+use Rattle.run.specs.declared.Run.{Run}
+use Rattle.run.specs.Runs.{wellFormed, stageOf, transcriptOf, qualOf}
+use Rattle.run.specs.Steps.{mayBlame}
+use Rattle.run.specs.RunLaws.{formed-of, stage-live}
+use Rattle.writers.specs.Writers.{setupRefused, dealingRefused, complaintRefused, responseRefused}
+
+-- ---- SU
+
+pub record SetupFits (n t a : ℕ) (shares : List ℕ) (room : ℕ) : Type 0 where
+  pub bounds : Bounds n t a
+  pub count : length shares ≡ t
+  pub exact : room ≡ setupLength t
+
+pub setup-fits : (n t a s : ℕ) (shares : List ℕ) (room : ℕ) → setupRefused n t a s shares room ≡ 0 → SetupFits n t a shares room
+unfolding setupRefused
+setup-fits n t a s shares room e =
+    let p = passed _ _ _ e (omega arith) in
+    let q = passed _ _ _ (p .1) (omega arith) in
+    let r = passed _ _ _ (q .1) (omega arith) in
+    let v = passed _ _ _ (r .1) (omega arith) in
+    record { bounds = bounds-of n t a (p .0); count = eqb-true _ _ (q .0); exact = eqb-true _ _ (v .0) }
+
+-- ---- DE
+
+pub record DealingFits (n t a i : ℕ) (values : List ℕ) (room : ℕ) : Type 0 where
+  pub bounds : Bounds n t a
+  pub party-pos : 0 < i
+  pub party-max : i ≤ n
+  pub count : length values ≡ quorum t a
+  pub exact : room ≡ dealingLength n t a
+
+pub dealing-fits : (n t a i : ℕ) (values : List ℕ) (room : ℕ) → dealingRefused n t a i values room ≡ 0 → DealingFits n t a i values room
+unfolding dealingRefused
+dealing-fits n t a i values room e =
+    let p = passed _ _ _ e (omega arith) in
+    let q = passed _ _ _ (p .1) (omega arith) in
+    let r = passed _ _ _ (q .1) (omega arith) in
+    let v = passed _ _ _ (r .1) (omega arith) in
+    let w = passed _ _ _ (v .1) (omega arith) in
+    let party = party-of n i (q .0) in
+    record {
+      bounds = bounds-of n t a (p .0);
+      party-pos = party .0;
+      party-max = party .1;
+      count = eqb-true _ _ (r .0);
+      exact = eqb-true _ _ (w .0);
+    }
+
+-- ---- VE
+
+pub record ComplaintFits (r : Run) (j room : ℕ) : Type 0 where
+  pub stage : stageOf r ≡ 2
+  pub formed : wellFormed r ≡ true
+  pub party-pos : 0 < j
+  pub party-max : j ≤ r .setup .n
+  pub exact : room ≡ complaintLength (r .setup .n)
+
+pub complaint-fits : (r : Run) (j room : ℕ) → complaintRefused r j room ≡ 0 → ComplaintFits r j room
+unfolding complaintRefused
+complaint-fits r j room e =
+    let p = passed _ _ _ e (omega arith) in
+    let q = passed _ _ _ (p .1) (omega arith) in
+    let v = passed _ _ _ (q .1) (omega arith) in
+    let stage : stageOf r ≡ 2 = eqb-true _ _ (p .0) in
+    let party = party-of (r .setup .n) j (q .0) in
+    record {
+      stage = stage;
+      formed = stage-live r 2 stage (omega arith) (omega arith) .1;
+      party-pos = party .0;
+      party-max = party .1;
+      exact = eqb-true _ _ (v .0);
+    }
+
+-- the mask of the wrong dealers has four bytes
+pub mask-lt : (r : Run) (j : ℕ) → wellFormed r ≡ true → maskOf (r .setup .n) (mayBlame (r .dealings) j) < 2 ^ 32
+mask-lt r j w = le-trans (maskOf-lt (r .setup .n) (mayBlame (r .dealings) j)) (pow-mono (formed-of r w .bounds .n-max))
+
+-- ---- RE
+
+-- what is asked of F(j) and the shares
+unfoldable pub sharesRefused : Run → ℕ → List ℕ → ℕ → ℕ
+sharesRefused r key shares room =
+    require (eqb (length shares) (r .setup .n)) 10
+    (require (isScalar key && allTo (r .setup .n) (λ i. not (transcriptOf r .qual (i + 1)) || isScalar (getD shares i 0))) 6
+    (require (eqb room (responseLength (r .setup .n) (r .setup .t))) 9 0))
+
+-- QUAL as a mask has the members of QUAL
+pub qual-is : (r : Run) → has (qualOf r) ≡ transcriptOf r .qual
+unfolding qualOf transcriptOf
+qual-is r = fun-ext (has-minus (r .dealings .dealers) (r .complaints .blamed))
+
+pub record ResponseFits (r : Run) (j : ℕ) (shares : List ℕ) (room : ℕ) : Type 0 where
+  pub stage : stageOf r ≡ 4
+  pub formed : wellFormed r ≡ true
+  pub party-pos : 0 < j
+  pub party-max : j ≤ r .setup .n
+  pub holder : has (r .complaints .holders) j ≡ true
+  pub count : length shares ≡ r .setup .n
+  pub exact : room ≡ responseLength (r .setup .n) (r .setup .t)
+
+pub response-fits : (r : Run) (j key : ℕ) (shares : List ℕ) (room : ℕ) → responseRefused r j key shares room ≡ 0 → ResponseFits r j shares room
+unfolding responseRefused
+response-fits r j key shares room e =
+    let p = passed _ _ _ e (omega arith) in
+    let q = passed _ _ _ (p .1) (omega arith) in
+    let h = passed _ _ _ (q .1) (omega arith) in
+    let v = passed _ _ _ (h .1) (omega arith) in
+    let w = passed _ _ _ (v .1) (omega arith) in
+    let x = passed _ _ _ (w .1) (omega arith) in
+    let stage : stageOf r ≡ 4 = eqb-true _ _ (p .0) in
+    let party = party-of (r .setup .n) j (q .0) in
+    record {
+      stage = stage;
+      formed = stage-live r 4 stage (omega arith) (omega arith) .1;
+      party-pos = party .0;
+      party-max = party .1;
+      holder = h .0;
+      count = eqb-true _ _ (v .0);
+      exact = eqb-true _ _ (x .0);
+    }
