@@ -110,26 +110,38 @@ cases =
     (page worked, workedPage ∷ [])
     ∷ (said (after worked), (2 ∷ 3 ∷ 4 ∷ []) ∷ (1 ∷ 2 ∷ 3 ∷ []) ∷ [] ∷ (64 ∷ 4 ∷ []) ∷ (65536 ∷ 10 ∷ []) ∷ (5 ∷ []) ∷ [])
     -- (B) right after CH, RE 1 with 0,0 refused 14; (C) RE 2 with 11,22 refused 15
-    ∷ (answer (challenged 1 4 0) (response 1 (0 ∷ 0 ∷ [])) ∷ answer (challenged 1 4 0) (response 2 (11 ∷ 22 ∷ [])) ∷ [],
-    (14 ∷ []) ∷ (15 ∷ []) ∷ [])
+    ∷ (
+      answer (challenged 1 4 0) (response 1 (0 ∷ 0 ∷ [])) ∷ answer (challenged 1 4 0) (response 2 (11 ∷ 22 ∷ [])) ∷ [],
+      (14 ∷ []) ∷ (15 ∷ []) ∷ [],
+    )
     -- (D) the share of dealer 3 for 2 sent as 5, mask 4 from holder 2
-    ∷ (said (after (challenged 1 5 4 ++ (response 2 (6 ∷ 10 ∷ []) ∷ response 3 (8 ∷ 13 ∷ []) ∷ []))),
-    (2 ∷ 3 ∷ 4 ∷ []) ∷ (1 ∷ 2 ∷ []) ∷ (3 ∷ []) ∷ (4 ∷ 2 ∷ []) ∷ (16 ∷ 4 ∷ []) ∷ (5 ∷ []) ∷ [])
+    ∷ (
+      said (after (challenged 1 5 4 ++ (response 2 (6 ∷ 10 ∷ []) ∷ response 3 (8 ∷ 13 ∷ []) ∷ []))),
+      (2 ∷ 3 ∷ 4 ∷ []) ∷ (1 ∷ 2 ∷ []) ∷ (3 ∷ []) ∷ (4 ∷ 2 ∷ []) ∷ (16 ∷ 4 ∷ []) ∷ (5 ∷ []) ∷ [],
+    )
     -- (E) mask 4 from holder 2 in the first log refused 13
     ∷ (answer (dealt 1 4) (complaint 2 4) ∷ [], (13 ∷ []) ∷ [])
     -- (F) 4,1,1 and 32,1,15 accepted, (G) 3,1,1 and 32,1,16 refused 4
-    ∷ (answer [] su ∷ answer [] (setup 32 1 15 (4 ∷ 16 ∷ [])) ∷ answer [] (setup 3 1 1 (4 ∷ 16 ∷ [])) ∷ answer [] (setup 32 1 16 (4 ∷ 16 ∷ [])) ∷ [],
-    (0 ∷ []) ∷ (0 ∷ []) ∷ (4 ∷ []) ∷ (4 ∷ []) ∷ [])
+    ∷ (
+      answer [] su ∷ answer [] (setup 32 1 15 (4 ∷ 16 ∷ [])) ∷ answer [] (setup 3 1 1 (4 ∷ 16 ∷ [])) ∷ answer [] (setup 32 1 16 (4 ∷ 16 ∷ [])) ∷ [],
+      (0 ∷ []) ∷ (0 ∷ []) ∷ (4 ∷ []) ∷ (4 ∷ []) ∷ [],
+    )
     -- (H) scalar 500,000,002 taken, 500,000,003 refused 6
-    ∷ (answer (su ∷ []) (dealing 1 (1 ∷ 4 ∷ 500000002 ∷ 2 ∷ 3 ∷ 4 ∷ [])) ∷ answer (su ∷ []) (dealing 1 (1 ∷ 4 ∷ 500000003 ∷ 2 ∷ 3 ∷ 4 ∷ [])) ∷ [],
-    (0 ∷ []) ∷ (6 ∷ []) ∷ [])
+    ∷ (
+      answer (su ∷ []) (dealing 1 (1 ∷ 4 ∷ 500000002 ∷ 2 ∷ 3 ∷ 4 ∷ [])) ∷ answer (su ∷ []) (dealing 1 (1 ∷ 4 ∷ 500000003 ∷ 2 ∷ 3 ∷ 4 ∷ [])) ∷ [],
+      (0 ∷ []) ∷ (6 ∷ []) ∷ [],
+    )
     -- (I) 4 an element, 1,000,000,006 not; (J) the inverse of 2; (K) the weights of points 2, 3 at 0
-    ∷ (test (isElement 4) ∷ test (isElement 1000000006) ∷ (inverse (scalar 2) .0 ∷ [])
-    ∷ (weight (λ i. scalar (i + 2)) 2 0 (scalar 0) .0 ∷ weight (λ i. scalar (i + 2)) 2 1 (scalar 0) .0 ∷ []) ∷ [],
-    (1 ∷ []) ∷ (0 ∷ []) ∷ (250000002 ∷ []) ∷ (3 ∷ 500000001 ∷ []) ∷ [])
+    ∷ (
+      test (isElement 4) ∷ test (isElement 1000000006) ∷ (inverse (scalar 2) .0 ∷ [])
+          ∷ (weight (λ i. scalar (i + 2)) 2 0 (scalar 0) .0 ∷ weight (λ i. scalar (i + 2)) 2 1 (scalar 0) .0 ∷ []) ∷ [],
+      (1 ∷ []) ∷ (0 ∷ []) ∷ (250000002 ∷ []) ∷ (3 ∷ 500000001 ∷ []) ∷ [],
+    )
     -- (L) the shares for 2 sent as 2 by dealer 2 and as 5 by dealer 3, mask 6 from holder 2
-    ∷ (said (after (held 2 5 6)),
-    (2 ∷ 3 ∷ 4 ∷ []) ∷ (1 ∷ []) ∷ (2 ∷ 3 ∷ []) ∷ (1 ∷ 0 ∷ []) ∷ (1 ∷ 0 ∷ []) ∷ (6 ∷ []) ∷ [])
+    ∷ (
+      said (after (held 2 5 6)),
+      (2 ∷ 3 ∷ 4 ∷ []) ∷ (1 ∷ []) ∷ (2 ∷ 3 ∷ []) ∷ (1 ∷ 0 ∷ []) ∷ (1 ∷ 0 ∷ []) ∷ (6 ∷ []) ∷ [],
+    )
     ∷ []
 
 -- every case comes out as document 01 says

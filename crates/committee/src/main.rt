@@ -22,7 +22,9 @@ fn key_share(j: u8) -> u32 {
     values[0] = Scalar(123456789);
     values[1] = Scalar(123456789);
     values[2] = Scalar(222222222);
-    let share = interpolation::committed_points(2, 3).weights(interpolation::point(j, 0)).sum(values);
+    let share = interpolation::committed_points(2, 3)
+        .weights(interpolation::point(j, 0))
+        .sum(values);
     share.0
 }
 
@@ -30,7 +32,10 @@ fn key_share(j: u8) -> u32 {
 fn dealt_value(i: u8, v: u8) -> u32 {
     let square = Scalar(v as u32 + 1).mul(Scalar(v as u32 + 1));
     let second = square.mul(Scalar(7654321)).mul(Scalar(i as u32));
-    let value = Scalar(i as u32).mul(Scalar(10000019)).add(second).add(Scalar(17));
+    let value = Scalar(i as u32)
+        .mul(Scalar(10000019))
+        .add(second)
+        .add(Scalar(17));
     value.0
 }
 
@@ -41,7 +46,9 @@ fn dealt_share(i: u8, j: u8) -> u32 {
     values[1] = Scalar(dealt_value(i, 1));
     values[2] = Scalar(dealt_value(i, 2));
     values[3] = Scalar(dealt_value(i, 3));
-    let share = interpolation::committed_points(2, 4).weights(interpolation::point(j, 0)).sum(values);
+    let share = interpolation::committed_points(2, 4)
+        .weights(interpolation::point(j, 0))
+        .sum(values);
     share.0
 }
 
@@ -54,8 +61,17 @@ fn set_up(run: Run) -> Run {
     give(run, &out)
 }
 
+fn give_dealing(run: Run, bytes: &[u8; 44]) -> Run {
+    give(run, bytes)
+}
+
 fn deal(run: Run, i: u8) -> Run {
-    let values: [u32; 4] = [dealt_value(i, 0), dealt_value(i, 1), dealt_value(i, 2), dealt_value(i, 3)];
+    let values: [u32; 4] = [
+        dealt_value(i, 0),
+        dealt_value(i, 1),
+        dealt_value(i, 2),
+        dealt_value(i, 3),
+    ];
     let mut out = [0u8; 44];
     if writers::write_dealing(6, 1, 2, i, &values, &mut out) != 0 {
         return run;
@@ -63,7 +79,7 @@ fn deal(run: Run, i: u8) -> Run {
     if i == 4 {
         out[23] = out[23] ^ 1;
     }
-    give(run, &out)
+    give_dealing(run, &out)
 }
 
 fn complain(run: Run, j: u8) -> Run {
@@ -77,7 +93,14 @@ fn complain(run: Run, j: u8) -> Run {
 // The shares of dealers outside QUAL are not read: they are no scalars here.
 fn respond(run: Run, j: u8) -> Run {
     let none: u32 = 4294967295;
-    let shares: [u32; 6] = [none, dealt_share(2, j), dealt_share(3, j), none, dealt_share(5, j), dealt_share(6, j)];
+    let shares: [u32; 6] = [
+        none,
+        dealt_share(2, j),
+        dealt_share(3, j),
+        none,
+        dealt_share(5, j),
+        dealt_share(6, j),
+    ];
     let mut out = [0u8; 20];
     if writers::write_response(run, j, key_share(j), &shares, &mut out) != 0 {
         return run;
@@ -106,7 +129,10 @@ fn main() {
     for h in 0..5 {
         run = complain(run, holders[h]);
     }
-    run = give(run, b"CH\x00\x00\x00\xa7\xd8\xe1\x00\xb7\x1b\x24\x01\x40o\x7f\x01O\xb1\xc2\x01\xd9\x06\x1d\x01\xe8H\x60\x02q\x9c\xbb\x02\x80\xde\xfe");
+    run = give(
+        run,
+        b"CH\x00\x00\x00\xa7\xd8\xe1\x00\xb7\x1b\x24\x01\x40o\x7f\x01O\xb1\xc2\x01\xd9\x06\x1d\x01\xe8H\x60\x02q\x9c\xbb\x02\x80\xde\xfe",
+    );
     let responders: [u8; 4] = [6, 1, 3, 5];
     for h in 0..4 {
         run = respond(run, responders[h]);

@@ -1,19 +1,24 @@
 // Logs: cut into records and given to a run, and the printed page.
 ghost use mathlib.Core.Path.{_≡_};
-ghost use mathlib.Core.Bool.{true, _&&_};
-ghost use mathlib.Core.List.{List, [], _∷_, _++_};
-ghost use Prim.Native.Nat.{ℕ, _+_, _-_, _*_, _≤_, _<_};
-ghost use lib.ListN.{length, getD, set};
-ghost use lib.Dec.{eqb, leb};
+ghost use mathlib.Core.Bool.{true};
+ghost use mathlib.Core.List.{[], _∷_, _++_};
+ghost use Prim.Native.Nat.{_+_, _*_, _≤_, _<_};
+ghost use lib.ListN.{length};
 ghost use lib.Seq.{sets};
-ghost use Rattle.lists.specs.Tests.{pick};
-ghost use Rattle.records.specs.Parameters.{batch};
-ghost use Rattle.run.specs.Runs.{wellFormed};
+ghost use Rattle.records.specs.Parameters.{mostParties, batch};
+ghost use Rattle.run.specs.Runs.{fresh, wellFormed};
 ghost use Rattle.log.specs.Cutting.{lengthOf, recordsOf, runOf};
-ghost use Rattle.log.specs.Report.{decimal, field, line, refuseWord, sigWord, endWord, setLine, signatureLines, closing, reportOf};
+ghost use Rattle.log.specs.Report.{decimal, field, line, refuseWord, sigWord, refusalLines, setLine, signatureLines, closing};
+ghost use Rattle.log.specs.Texts.{Wrote};
+ghost use Rattle.log.specs.Turns.{nextLength};
+ghost use Rattle.log.specs.SignatureRows.{rowLines};
+ghost use Rattle.log.specs.Printed.{mostReport, printed};
 use field::Element;
 use field::Scalar;
 use run::Run;
+
+// Room for every page.
+pub const REPORT: usize = 300000;
 
 // The length that a log's next record has by its tag, or 0.
 pub fn record_length(run: Run, rest: &[u8]) -> usize
@@ -25,7 +30,8 @@ pub fn record_length(run: Run, rest: &[u8]) -> usize
         if rest.len() < 6 {
             return 0;
         }
-        return records::setup_length(records::byte(rest, 3));
+        let t = records::byte(rest, 3);
+        return records::setup_length(t);
     }
     if stage == 0 {
         return 0;
@@ -39,11 +45,24 @@ pub fn record_length(run: Run, rest: &[u8]) -> usize
     }
 }
 
+// The length of the next record: by its tag where it is whole, else all that is left.
+fn next_length(run: Run, rest: &[u8]) -> usize
+    ensures { λ r. ⌜ r ≡ nextLength run (now (rest .entry)) ⌝ }
+{
+    let length = record_length(run, rest);
+    if length < 1 {
+        return rest.len();
+    }
+    if rest.len() < length {
+        return rest.len();
+    }
+    length
+}
+
 // A text at a place with room for it; the place after it.
 fn put_text(out: &mut [u8], at: usize, text: &[u8]) -> usize
     requires { ⌜ at + length (now text) ≤ length (now out) ⌝ }
-    ensures place { λ r. ⌜ r ≡ at + length (now (text .entry)) ⌝ }
-    ensures bytes { λ _. ⌜ now (out .exit) ≡ sets (now (out .entry)) at (now (text .entry)) ⌝ }
+    ensures { λ r. ⌜ Wrote (now (out .entry)) (now (out .exit)) at r (now (text .entry)) ⌝ }
 {
     let count = text.len();
     for i in 0..count {
@@ -55,8 +74,7 @@ fn put_text(out: &mut [u8], at: usize, text: &[u8]) -> usize
 // A number in base ten.
 fn put_decimal(out: &mut [u8], at: usize, n: u32) -> usize
     requires { ⌜ at + 10 ≤ length (now out) ⌝ }
-    ensures place { λ r. ⌜ r ≡ at + length (decimal n) ⌝ }
-    ensures bytes { λ _. ⌜ now (out .exit) ≡ sets (now (out .entry)) at (decimal n) ⌝ }
+    ensures { λ r. ⌜ Wrote (now (out .entry)) (now (out .exit)) at r (decimal n) ⌝ }
 {
     let mut next = at;
     if 10 <= n {
@@ -69,30 +87,55 @@ fn put_decimal(out: &mut [u8], at: usize, n: u32) -> usize
 // A space and a number.
 fn put_field(out: &mut [u8], at: usize, n: u32) -> usize
     requires { ⌜ at + 11 ≤ length (now out) ⌝ }
-    ensures place { λ r. ⌜ r ≡ at + length (field n) ⌝ }
-    ensures bytes { λ _. ⌜ now (out .exit) ≡ sets (now (out .entry)) at (field n) ⌝ }
+    ensures { λ r. ⌜ Wrote (now (out .entry)) (now (out .exit)) at r (field n) ⌝ }
 {
     out[at] = b' ';
     put_decimal(out, at + 1, n)
 }
 
+// A line: a word, its fields, a line feed.
+fn put_line(out: &mut [u8], at: usize, word: &[u8], numbers: &[u32]) -> usize
+    requires { ⌜ at + (length (now word) + 11 * length (now numbers) + 1) ≤ length (now out) ⌝ }
+    ensures { λ r. ⌜ Wrote (now (out .entry)) (now (out .exit)) at r (line (now (word .entry)) (now (numbers .entry))) ⌝ }
+{
+    let mut next = put_text(out, at, word);
+    let count = numbers.len();
+    for i in 0..count {
+        next = put_field(out, next, numbers[i]);
+    }
+    out[next] = b'\n';
+    next + 1
+}
+
 // The line of a refused record.
 fn put_refusal(out: &mut [u8], at: usize, position: u32, number: u8) -> usize
     requires { ⌜ at + 32 ≤ length (now out) ⌝ }
-    ensures place { λ r. ⌜ r ≡ at + length (line refuseWord (position ∷ number ∷ [])) ⌝ }
-    ensures bytes { λ _. ⌜ now (out .exit) ≡ sets (now (out .entry)) at (line refuseWord (position ∷ number ∷ [])) ⌝ }
+    ensures { λ r. ⌜ Wrote (now (out .entry)) (now (out .exit)) at r (line refuseWord (position ∷ number ∷ [])) ⌝ }
 {
-    let word = put_text(out, at, b"refuse");
-    let first = put_field(out, word, position);
-    let second = put_field(out, first, number as u32);
-    put_text(out, second, b"\n")
+    let numbers = [position, number as u32];
+    put_line(out, at, b"refuse", &numbers)
 }
 
-// The members of a set.
+// The line of a signature.
+fn put_signature(
+    out: &mut [u8],
+    at: usize,
+    u: u8,
+    k: u8,
+    nonce: Element,
+    signature: Scalar,
+) -> usize
+    requires { ⌜ at + 48 ≤ length (now out) ⌝ }
+    ensures { λ r. ⌜ Wrote (now (out .entry)) (now (out .exit)) at r (line sigWord (u ∷ k ∷ nonce .0 ∷ signature .0 ∷ [])) ⌝ }
+{
+    let numbers = [u as u32, k as u32, nonce.0, signature.0];
+    put_line(out, at, b"sig", &numbers)
+}
+
+// The line of a set: its members, or `-` where it has none.
 fn put_set(out: &mut [u8], at: usize, word: &[u8], n: u8, mask: u64) -> usize
-    requires { ⌜ (length (now word) ≤ 4) × (at + 1024 ≤ length (now out)) × (n ≤ 64) ⌝ }
-    ensures place { λ r. ⌜ r ≡ at + length (setLine (now (word .entry)) n mask) ⌝ }
-    ensures bytes { λ _. ⌜ now (out .exit) ≡ sets (now (out .entry)) at (setLine (now (word .entry)) n mask) ⌝ }
+    requires { ⌜ at + (length (now word) + 11 * n + 3) ≤ length (now out) ⌝ }
+    ensures { λ r. ⌜ Wrote (now (out .entry)) (now (out .exit)) at r (setLine (now (word .entry)) n mask) ⌝ }
 {
     let start = put_text(out, at, word);
     let mut next = start;
@@ -104,5 +147,96 @@ fn put_set(out: &mut [u8], at: usize, word: &[u8], n: u8, mask: u64) -> usize
     if next == start {
         next = put_text(out, next, b" -");
     }
-    put_text(out, next, b"\n")
+    out[next] = b'\n';
+    next + 1
+}
+
+// The signature lines of one u: the committed values combined for u, and R(u,k) from them at each slot k.
+fn put_row(out: &mut [u8], at: usize, run: Run, u: u8) -> usize
+    requires { ⌜ (wellFormed run ≡ true) × (0 < u) × (u ≤ batch (run .setup .n) (run .setup .t)) × (at + 48 * run .setup .a ≤ length (now out)) ⌝ }
+    ensures { λ r. ⌜ Wrote (now (out .entry)) (now (out .exit)) at r (rowLines run u (run .setup .a)) ⌝ }
+{
+    let a = run.setup.a;
+    let quorum = records::quorum(run.setup.t, a) as u8;
+    let commitments = run.dealings.commitments;
+    let values = protocol::combined_values(commitments, run.qual(), run.setup.n, quorum, u);
+    let points = interpolation::committed_points(a, quorum);
+    let first = (u - 1) as usize * a as usize;
+    let mut next = at;
+    for k in 0..a {
+        let nonce = points
+            .weights(interpolation::point(1, k + 1))
+            .product(values);
+        let signature = run.signatures[first + k as usize];
+        next = put_signature(out, next, u, k + 1, nonce, signature);
+    }
+    next
+}
+
+// Every signature line.
+fn put_signatures(out: &mut [u8], at: usize, run: Run) -> usize
+    requires { ⌜ (wellFormed run ≡ true) × (at + 24576 ≤ length (now out)) ⌝ }
+    ensures { λ r. ⌜ Wrote (now (out .entry)) (now (out .exit)) at r (signatureLines run (run .setup .a * batch (run .setup .n) (run .setup .t))) ⌝ }
+{
+    let count = records::batch(run.setup.n, run.setup.t);
+    let mut next = at;
+    for u in 0..count {
+        next = put_row(out, next, run, u + 1);
+    }
+    next
+}
+
+// The sets, at stage 5 every signature, and the stage.
+fn put_closing(out: &mut [u8], at: usize, run: Run) -> usize
+    requires { ⌜ (run .setup .n ≤ mostParties) × (at + 26000 ≤ length (now out)) ⌝ }
+    ensures { λ r. ⌜ Wrote (now (out .entry)) (now (out .exit)) at r (closing run) ⌝ }
+{
+    let n = run.setup.n;
+    let stage = run.stage_of();
+    let fixed = run.sets();
+    let hold = put_set(out, at, b"hold", n, fixed.hold);
+    let qual = put_set(out, hold, b"qual", n, fixed.qual);
+    let mut next = put_set(out, qual, b"bad", n, fixed.bad);
+    if stage == 5 {
+        next = put_signatures(out, next, run);
+    }
+    let numbers = [stage as u32];
+    put_line(out, next, b"end", &numbers)
+}
+
+// The page of a log that is not too long, into a buffer with room for every page.
+fn put_page(log: &[u8], out: &mut [u8]) -> usize
+    requires { ⌜ (length (now log) ≤ 65536) × (mostReport ≤ length (now out)) ⌝ }
+    ensures { λ r. ⌜ Wrote (now (out .entry)) (now (out .exit)) 0 r (refusalLines 1 fresh (recordsOf (now (log .entry))) ++ closing (runOf (now (log .entry)))) ⌝ }
+{
+    let mut run = Run::fresh();
+    let mut from: usize = 0;
+    let mut at: usize = 0;
+    let mut position: u32 = 1;
+    while from < log.len() {
+        let rest = &log[from..];
+        let length = next_length(run, rest);
+        let reply = run.step(&rest[..length]);
+        if reply.number != 0 {
+            at = put_refusal(out, at, position, reply.number);
+        }
+        run = reply.run;
+        from += length;
+        position += 1;
+    }
+    put_closing(out, at, run)
+}
+
+// The page of a log into a buffer that has room for every page, and how long it is; into any other nothing.
+pub fn report(log: &[u8], out: &mut [u8]) -> usize
+    ensures size { λ r. ⌜ r ≡ length (printed (length (now (out .entry))) (now (log .entry))) ⌝ }
+    ensures bytes { λ _. ⌜ now (out .exit) ≡ sets (now (out .entry)) 0 (printed (length (now (out .entry))) (now (log .entry))) ⌝ }
+{
+    if out.len() < REPORT {
+        return 0;
+    }
+    if 65536 < log.len() {
+        return put_text(out, 0, b"long\n");
+    }
+    put_page(log, out)
 }

@@ -710,7 +710,9 @@ impl Run {
         let list = self.dealings.commitments;
         let quorum = records::quorum(self.setup.t, self.setup.a) as u8;
         let values = protocol::combined_values(list, self.qual(), self.setup.n, quorum, u);
-        interpolation::committed_points(self.setup.a, quorum).weights(x).product(values)
+        interpolation::committed_points(self.setup.a, quorum)
+            .weights(x)
+            .product(values)
     }
 
     // R(u,k), at stages 3, 4 and 5.

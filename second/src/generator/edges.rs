@@ -4,7 +4,7 @@
 
 use super::document::{self, record};
 use super::logs::{add_every_alien, completed, Gathered};
-use super::session::Session;
+use super::draft::Draft;
 use super::spoil;
 use crate::arith::{Element, P, Q};
 use crate::params::Params;
@@ -15,100 +15,100 @@ use crate::rng::Rng;
 use crate::run::Stage;
 
 /// A committee small enough for many records in one log.
-fn small_session(rng: &mut Rng) -> Session {
+fn small_draft(rng: &mut Rng) -> Draft {
     let (n, t, a) = rng.pick(&[(4, 1, 1), (6, 1, 2), (7, 2, 1), (8, 1, 3)]);
-    Session::new(Params::new(n, t, a).expect("within the bounds"), rng)
+    Draft::new(Params::new(n, t, a).expect("within the bounds"), rng)
 }
 
-/// A session at a stage; for stage 6 one dealer too many is bad.
-fn session_at(stage: Stage, session: Session, rng: &mut Rng) -> Session {
-    let too_many = session.params().t as usize + 1;
-    let mut session = match stage {
-        Stage::Failed => session.with_bad_dealers(too_many, rng),
-        _ => session,
+/// A draft at a stage; for stage 6 one dealer too many is bad.
+fn draft_at(stage: Stage, draft: Draft, rng: &mut Rng) -> Draft {
+    let too_many = draft.params().t as usize + 1;
+    let mut draft = match stage {
+        Stage::Failed => draft.with_bad_dealers(too_many, rng),
+        _ => draft,
     };
-    session.go_to(stage, rng);
-    assert_eq!(session.run.stage, stage);
-    session
+    draft.go_to(stage, rng);
+    assert_eq!(draft.run.stage, stage);
+    draft
 }
 
 pub fn setup_logs(gathered: &mut Gathered, rng: &mut Rng) {
     gathered.add("setup-outside-bounds", outside_bounds(rng));
     gathered.add("setup-extreme-bytes", extreme_parameters(rng));
     gathered.add("setup-bad-keys", bad_keys(rng));
-    gathered.add_many("setup-only", 4, |_| Session::random(rng).committee.su());
+    gathered.add_many("setup-only", 4, |_| Draft::random(rng).committee.su());
     for stage in &Stage::ALL[1..] {
         gathered.add_many(&format!("late-setup-{}", stage.number()), 2, |_| {
-            let session = small_session(rng);
-            late_setups(session_at(*stage, session, rng), rng)
+            let draft = small_draft(rng);
+            late_setups(draft_at(*stage, draft, rng), rng)
         });
     }
 }
 
 /// Setups one step outside each bound, then a good log.
 fn outside_bounds(rng: &mut Rng) -> Vec<u8> {
-    let mut session = small_session(rng);
+    let mut draft = small_draft(rng);
     for (t, a) in (0..=12).flat_map(|t| (0..=17).map(move |a| (t, a))) {
         let least = 3 * t + 2 * a - 1;
         let n = if t == 0 || a == 0 { 32 } else { least - 1 };
-        session.refuse(&document::plain_setup(n as u8, t as u8, a as u8), Refusal::Bounds);
-        session.refuse(&document::plain_setup(33, t as u8, a as u8), Refusal::Bounds);
+        draft.refuse(&document::plain_setup(n as u8, t as u8, a as u8), Refusal::Bounds);
+        draft.refuse(&document::plain_setup(33, t as u8, a as u8), Refusal::Bounds);
     }
-    completed(session, rng)
+    completed(draft, rng)
 }
 
 /// Setups whose parameters are 0 or 255, then a good log.
 fn extreme_parameters(rng: &mut Rng) -> Vec<u8> {
-    let mut session = small_session(rng);
+    let mut draft = small_draft(rng);
     let extremes =
         [(0, 0, 0), (255, 255, 255), (4, 255, 1), (4, 1, 255), (255, 1, 1), (0, 1, 1), (32, 0, 1)];
     for (n, t, a) in extremes {
-        session.refuse(&document::plain_setup(n, t, a), Refusal::Bounds);
+        draft.refuse(&document::plain_setup(n, t, a), Refusal::Bounds);
     }
-    completed(session, rng)
+    completed(draft, rng)
 }
 
 /// Setups with each kind of number that is no element, then a good log.
 fn bad_keys(rng: &mut Rng) -> Vec<u8> {
-    let mut session = small_session(rng);
+    let mut draft = small_draft(rng);
     for number in [0, 2, 3, 4, 5, Q - 1, Q, Q + 1, P - 4, P - 1, P, P + 1, P + 4, u32::MAX] {
         let is_element = Element::read(number).is_some();
         if !is_element {
-            session.refuse(&record("SU", &[4, 1, 1, 0], &[number, 4]), Refusal::Element);
-            session.refuse(&record("SU", &[4, 1, 1, 0], &[4, number]), Refusal::Element);
+            draft.refuse(&record("SU", &[4, 1, 1, 0], &[number, 4]), Refusal::Element);
+            draft.refuse(&record("SU", &[4, 1, 1, 0], &[4, number]), Refusal::Element);
         }
     }
-    completed(session, rng)
+    completed(draft, rng)
 }
 
 /// Setups of many lengths at a later stage, then the rest of the log.
-fn late_setups(mut session: Session, rng: &mut Rng) -> Vec<u8> {
+fn late_setups(mut draft: Draft, rng: &mut Rng) -> Vec<u8> {
     for t in [0, 1, 2, 3, 10, 11, 100, 255] {
         let contents = rng.bytes(setup_length(t) - 4);
         let late = [b"SU", &[rng.byte(), t][..], &contents].concat();
-        session.refuse(&late, Refusal::Stage);
+        draft.refuse(&late, Refusal::Stage);
     }
-    completed(session, rng)
+    completed(draft, rng)
 }
 
 /// Good logs that break off at every kind of place of every stage.
 pub fn cut_logs(gathered: &mut Gathered, rng: &mut Rng) {
     for stage in Stage::ALL {
-        let session = small_session(rng);
-        let session = session_at(stage, session, rng);
+        let draft = small_draft(rng);
+        let draft = draft_at(stage, draft, rng);
         let kind = format!("cut-at-{}", stage.number());
-        for tail in cut_tails(&session, rng) {
-            gathered.add(&kind, [session.bytes.clone(), tail].concat());
+        for tail in cut_tails(&draft, rng) {
+            gathered.add(&kind, [draft.bytes.clone(), tail].concat());
         }
     }
 }
 
 /// The beginnings of records to break off after.
-fn cut_tails(session: &Session, rng: &mut Rng) -> Vec<Vec<u8>> {
+fn cut_tails(draft: &Draft, rng: &mut Rng) -> Vec<Vec<u8>> {
     let mut tails = Vec::new();
     for tag in Tag::ALL {
-        let taken = session.run.stage.takes() == Some(tag);
-        let whole = if taken { session.next_record(rng) } else { spoil::alien(session, tag, rng) };
+        let taken = draft.run.stage.takes() == Some(tag);
+        let whole = if taken { draft.next_record(rng) } else { spoil::alien(draft, tag, rng) };
         let any = rng.between(2, whole.len() as u32 - 1) as usize;
         let mut lengths = match (taken, tag) {
             (true, Tag::Su) => vec![1, 2, 3, 4, 5, 6, 9, whole.len() - 1],
@@ -127,14 +127,14 @@ pub fn after_end_logs(gathered: &mut Gathered, rng: &mut Rng) {
     for stage in [Stage::Done, Stage::Failed] {
         let kind = format!("after-{}", stage.number());
         gathered.add_many(&kind, 6, |index| {
-            let session = Session::random(rng);
-            let mut session = session_at(stage, session, rng);
-            add_every_alien(&mut session, rng);
+            let draft = Draft::random(rng);
+            let mut draft = draft_at(stage, draft, rng);
+            add_every_alien(&mut draft, rng);
             for _ in 0..rng.between(0, 12) {
-                session.add_alien(rng);
+                draft.add_alien(rng);
             }
             let tail: &[u8] = [&b""[..], b"V", b"XX", b"RE\x01", b"SU\x04\x01\x01", b"VE\0"][index];
-            [&session.bytes, tail].concat()
+            [&draft.bytes, tail].concat()
         });
     }
 }
@@ -160,9 +160,9 @@ pub fn senseless_logs(gathered: &mut Gathered, rng: &mut Rng) {
         gathered.add("senseless-after-tag", [tag.letters().as_slice(), &rng.bytes(300)].concat());
     }
     for stage in Stage::ALL {
-        let session = small_session(rng);
-        let session = session_at(stage, session, rng);
-        gathered.add("senseless-tail", [session.bytes, rng.bytes(60)].concat());
+        let draft = small_draft(rng);
+        let draft = draft_at(stage, draft, rng);
+        gathered.add("senseless-tail", [draft.bytes, rng.bytes(60)].concat());
     }
 }
 
@@ -170,11 +170,11 @@ pub fn senseless_logs(gathered: &mut Gathered, rng: &mut Rng) {
 pub fn size_logs(gathered: &mut Gathered, rng: &mut Rng) {
     for size in [LONGEST_LOG - 1, LONGEST_LOG, LONGEST_LOG + 1] {
         gathered.add(&format!("size-{size}-zeros"), vec![0; size]);
-        let session = Session::random(rng);
-        let done = session_at(Stage::Done, session, rng);
+        let draft = Draft::random(rng);
+        let done = draft_at(Stage::Done, draft, rng);
         gathered.add(&format!("size-{size}-done"), padded(done.bytes, size));
-        let session = small_session(rng);
-        let begun = session_at(Stage::Dealing, session, rng);
+        let draft = small_draft(rng);
+        let begun = draft_at(Stage::Dealing, draft, rng);
         gathered.add(&format!("size-{size}-begun"), padded(begun.bytes, size));
     }
     gathered.add("size-ends-done", exactly_filled(rng));
@@ -212,28 +212,28 @@ fn large_setups() -> Vec<u8> {
 /// Thousands of refused records of 8 bytes.
 pub fn flood_logs(gathered: &mut Gathered, rng: &mut Rng) {
     for stage in [Stage::Dealing, Stage::Challenging, Stage::Done, Stage::Failed] {
-        let session = small_session(rng);
-        let mut session = session_at(stage, session, rng);
+        let draft = small_draft(rng);
+        let mut draft = draft_at(stage, draft, rng);
         for _ in 0..4000 {
             let alien = record("VE", &[rng.byte(), 0], &[0]);
-            session.refuse(&alien, Refusal::Stage);
+            draft.refuse(&alien, Refusal::Stage);
         }
-        gathered.add("flood", completed(session, rng));
+        gathered.add("flood", completed(draft, rng));
     }
     gathered.add("flood-of-complaints", complaint_flood(rng));
 }
 
 /// Thousands of refused complaint rows at their own stage, then the rest.
 fn complaint_flood(rng: &mut Rng) -> Vec<u8> {
-    let session = small_session(rng).with_bad_dealers(1, rng);
-    let mut session = session_at(Stage::Complaining, session, rng);
-    session.go_on(1, rng);
-    while session.bytes.len() < 60_000 {
-        for (record, refusal) in spoil::all_faults(&session, rng) {
-            session.refuse(&record, refusal);
+    let draft = small_draft(rng).with_bad_dealers(1, rng);
+    let mut draft = draft_at(Stage::Complaining, draft, rng);
+    draft.go_on(1, rng);
+    while draft.bytes.len() < 60_000 {
+        for (record, refusal) in spoil::all_faults(&draft, rng) {
+            draft.refuse(&record, refusal);
         }
     }
-    completed(session, rng)
+    completed(draft, rng)
 }
 
 /// Good logs with bytes changed, cut out or doubled, and records in no order.
@@ -253,8 +253,8 @@ pub fn changed_logs(gathered: &mut Gathered, rng: &mut Rng) {
 /// A small complete log with some noise.
 fn base_log(rng: &mut Rng) -> Vec<u8> {
     let bad = rng.between(0, 1) as usize;
-    let session = small_session(rng).with_bad_dealers(bad, rng);
-    completed(session.with_noise(15), rng)
+    let draft = small_draft(rng).with_bad_dealers(bad, rng);
+    completed(draft.with_noise(15), rng)
 }
 
 /// A log with a piece left out or doubled.
@@ -267,16 +267,16 @@ fn spliced(rng: &mut Rng) -> Vec<u8> {
 
 /// A setup, then records of any tag with numbers from a short list.
 fn jumbled(rng: &mut Rng) -> Vec<u8> {
-    let session = small_session(rng);
+    let draft = small_draft(rng);
     let numbers = [1, 4, 16, 64, 0, Q - 1, 5, Q, P - 1, P];
-    let mut log = session.committee.su();
+    let mut log = draft.committee.su();
     for _ in 0..rng.between(20, 80) {
         let tag = rng.pick(&[Tag::De, Tag::De, Tag::Ve, Tag::Ve, Tag::Ch, Tag::Re]);
-        let sender = rng.between(0, session.params().n + 1) as u8;
+        let sender = rng.between(0, draft.params().n + 1) as u8;
         log.extend(tag.letters());
         log.extend([if tag == Tag::Ch { 0 } else { sender }, 0]);
         let choice = rng.between(1, numbers.len() as u32) as usize;
-        for _ in 0..(session.length(tag) - 4) / 4 {
+        for _ in 0..(draft.length(tag) - 4) / 4 {
             log.extend(rng.pick(&numbers[..choice]).to_be_bytes());
         }
     }

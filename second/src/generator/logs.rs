@@ -4,7 +4,7 @@
 use super::committee::random_params;
 use super::document;
 use super::edges;
-use super::session::Session;
+use super::draft::Draft;
 use super::spoil;
 use crate::params::Params;
 use crate::records::Tag;
@@ -85,22 +85,22 @@ fn full_packings() -> Vec<Params> {
 fn full_packing_logs(gathered: &mut Gathered, rng: &mut Rng) {
     let packings = full_packings();
     for &params in packings.iter().step_by(3) {
-        let session = Session::new(params, rng);
-        gathered.add("full-packing", completed(session, rng));
+        let draft = Draft::new(params, rng);
+        gathered.add("full-packing", completed(draft, rng));
     }
     for (n, t, a) in [(32, 1, 15), (32, 10, 1), (32, 2, 13), (31, 10, 1), (32, 9, 3)] {
         let params = Params::new(n, t, a).expect("within the bounds");
         let kind = format!("complete-{n}-{t}-{a}");
-        gathered.add(&kind, completed(Session::new(params, rng), rng));
-        let session = Session::new(params, rng).with_bad_dealers(usize::from(t), rng);
-        gathered.add(&format!("{kind}-noisy"), completed(session.with_noise(15), rng));
+        gathered.add(&kind, completed(Draft::new(params, rng), rng));
+        let draft = Draft::new(params, rng).with_bad_dealers(usize::from(t), rng);
+        gathered.add(&format!("{kind}-noisy"), completed(draft.with_noise(15), rng));
     }
 }
 
-/// The bytes of a session that goes on to its end.
-pub fn completed(mut session: Session, rng: &mut Rng) -> Vec<u8> {
-    session.go_to(Stage::Done, rng);
-    session.bytes
+/// The bytes of a draft that goes on to its end.
+pub fn completed(mut draft: Draft, rng: &mut Rng) -> Vec<u8> {
+    draft.go_to(Stage::Done, rng);
+    draft.bytes
 }
 
 /// Honest committees, with and without refused records in between.
@@ -108,15 +108,15 @@ fn complete_logs(gathered: &mut Gathered, rng: &mut Rng) {
     for packing in 1..=5 {
         gathered.add_many(&format!("honest-packing-{packing}"), 8, |_| {
             let params = random_params(Some(packing), rng);
-            completed(Session::new(params, rng), rng)
+            completed(Draft::new(params, rng), rng)
         });
     }
-    gathered.add_many("honest", 25, |_| completed(Session::random(rng), rng));
-    gathered.add_many("noisy", 30, |_| completed(Session::random(rng).with_noise(30), rng));
+    gathered.add_many("honest", 25, |_| completed(Draft::random(rng), rng));
+    gathered.add_many("noisy", 30, |_| completed(Draft::random(rng).with_noise(30), rng));
     gathered.add_many("very-noisy", 12, |_| {
         let packing = Some(rng.between(1, 4));
         let params = random_params(packing, rng);
-        completed(Session::new(params, rng).with_noise(75), rng)
+        completed(Draft::new(params, rng).with_noise(75), rng)
     });
 }
 
@@ -124,15 +124,15 @@ fn complete_logs(gathered: &mut Gathered, rng: &mut Rng) {
 fn other_quorum_logs(gathered: &mut Gathered, rng: &mut Rng) {
     for packing in 1..=3 {
         let params = random_params(Some(packing), rng);
-        let mut session = Session::new(params, rng).with_bad_dealers(1, rng);
-        session.go_to(Stage::Responding, rng);
-        let (bytes, run) = (session.bytes.clone(), session.run.clone());
+        let mut draft = Draft::new(params, rng).with_bad_dealers(1, rng);
+        draft.go_to(Stage::Responding, rng);
+        let (bytes, run) = (draft.bytes.clone(), draft.run.clone());
         gathered.add_many("other-quorum", 4, |_| {
-            session.bytes = bytes.clone();
-            session.run = run.clone();
-            session.responders = rng.some_of(&session.holders, params.quorum());
-            session.go_to(Stage::Done, rng);
-            session.bytes.clone()
+            draft.bytes = bytes.clone();
+            draft.run = run.clone();
+            draft.responders = rng.some_of(&draft.holders, params.quorum());
+            draft.go_to(Stage::Done, rng);
+            draft.bytes.clone()
         });
     }
 }
@@ -140,57 +140,57 @@ fn other_quorum_logs(gathered: &mut Gathered, rng: &mut Rng) {
 /// Committees with wrong shares, blamed and not.
 fn wrong_share_logs(gathered: &mut Gathered, rng: &mut Rng) {
     gathered.add_many("wrong-blamed", 20, |_| {
-        let session = Session::random(rng);
-        let count = rng.between(1, session.params().t) as usize;
-        completed(session.with_bad_dealers(count, rng).with_noise(10), rng)
+        let draft = Draft::random(rng);
+        let count = rng.between(1, draft.params().t) as usize;
+        completed(draft.with_bad_dealers(count, rng).with_noise(10), rng)
     });
     gathered.add_many("wrong-at-limit", 12, |_| {
-        let session = Session::random(rng);
-        let count = session.params().t as usize;
-        completed(session.with_bad_dealers(count, rng), rng)
+        let draft = Draft::random(rng);
+        let count = draft.params().t as usize;
+        completed(draft.with_bad_dealers(count, rng), rng)
     });
     gathered.add_many("wrong-unblamed", 14, |_| {
-        let session = Session::random(rng);
-        let count = session.params().majority();
-        completed(session.with_bad_dealers(count, rng).with_silence(), rng)
+        let draft = Draft::random(rng);
+        let count = draft.params().majority();
+        completed(draft.with_bad_dealers(count, rng).with_silence(), rng)
     });
     gathered.add_many("wrong-half-blamed", 12, |_| completed(half_silent(rng), rng));
     gathered.add_many("too-many-bad", 16, |index| {
-        let session = Session::random(rng);
-        let (t, most) = (session.params().t as usize, session.params().majority());
+        let draft = Draft::random(rng);
+        let (t, most) = (draft.params().t as usize, draft.params().majority());
         let count = if index % 2 == 0 { t + 1 } else { most };
-        completed(session.with_bad_dealers(count, rng).with_noise(10), rng)
+        completed(draft.with_bad_dealers(count, rng).with_noise(10), rng)
     });
     gathered.add("all-wronged", completed(all_wronged(rng), rng));
     gathered.add("last-dealer-blamed", completed(last_dealer_blamed(rng), rng));
 }
 
 /// Bad dealers, of whose holders some leave their complaints out.
-fn half_silent(rng: &mut Rng) -> Session {
-    let session = Session::random(rng);
-    let count = session.params().t as usize + 1;
-    let mut session = session.with_bad_dealers(count, rng);
-    let quiet = rng.some_of(&session.holders, session.holders.len() / 2);
-    session.silent = quiet.into_iter().collect();
-    session
+fn half_silent(rng: &mut Rng) -> Draft {
+    let draft = Draft::random(rng);
+    let count = draft.params().t as usize + 1;
+    let mut draft = draft.with_bad_dealers(count, rng);
+    let quiet = rng.some_of(&draft.holders, draft.holders.len() / 2);
+    draft.silent = quiet.into_iter().collect();
+    draft
 }
 
 /// One dealer sends a wrong share to everyone.
-fn all_wronged(rng: &mut Rng) -> Session {
-    let mut session = Session::random(rng);
-    let (dealer, n) = (session.dealers[0], session.params().n);
-    session.wrong = (1..=n).map(|holder| (dealer, holder)).collect();
-    session
+fn all_wronged(rng: &mut Rng) -> Draft {
+    let mut draft = Draft::random(rng);
+    let (dealer, n) = (draft.dealers[0], draft.params().n);
+    draft.wrong = (1..=n).map(|holder| (dealer, holder)).collect();
+    draft
 }
 
 /// Dealer 32 of 32 is blamed by holder 32: the highest bit of the mask.
-fn last_dealer_blamed(rng: &mut Rng) -> Session {
+fn last_dealer_blamed(rng: &mut Rng) -> Draft {
     let params = Params::new(32, 3, 5).expect("within the bounds");
     loop {
-        let mut session = Session::new(params, rng);
-        if session.dealers.contains(&32) && session.holders.contains(&32) {
-            session.wrong = [(32, 32)].into();
-            return session;
+        let mut draft = Draft::new(params, rng);
+        if draft.dealers.contains(&32) && draft.holders.contains(&32) {
+            draft.wrong = [(32, 32)].into();
+            return draft;
         }
     }
 }
@@ -198,88 +198,88 @@ fn last_dealer_blamed(rng: &mut Rng) -> Session {
 /// Logs that end at each stage from 0 to 4, with some of its records accepted.
 fn stopped_logs(gathered: &mut Gathered, rng: &mut Rng) {
     gathered.add_many("stopped-0", 3, |_| {
-        let mut session = Session::random(rng);
+        let mut draft = Draft::random(rng);
         for _ in 0..5 {
-            session.make_noise(rng);
+            draft.make_noise(rng);
         }
-        session.bytes
+        draft.bytes
     });
     for stage in &Stage::ALL[1..=4] {
         gathered.add_many(&format!("stopped-{}", stage.number()), 5, |index| {
-            stopped(Session::random(rng).with_noise(20), *stage, index, rng)
+            stopped(Draft::random(rng).with_noise(20), *stage, index, rng)
         });
     }
 }
 
-/// A session that stops with none, one, some or all but one of a stage's records.
-fn stopped(mut session: Session, stage: Stage, index: usize, rng: &mut Rng) -> Vec<u8> {
-    session.go_to(stage, rng);
+/// A draft that stops with none, one, some or all but one of a stage's records.
+fn stopped(mut draft: Draft, stage: Stage, index: usize, rng: &mut Rng) -> Vec<u8> {
+    draft.go_to(stage, rng);
     let wanted = match stage {
-        Stage::Dealing | Stage::Complaining => session.params().majority(),
-        Stage::Responding => session.params().quorum(),
+        Stage::Dealing | Stage::Complaining => draft.params().majority(),
+        Stage::Responding => draft.params().quorum(),
         _ => 1,
     };
     let steps = [0, 1, wanted / 2, wanted - 1][index % 4].min(wanted - 1);
-    session.go_on(steps, rng);
-    session.bytes
+    draft.go_on(steps, rng);
+    draft.bytes
 }
 
 /// Every set of faults a record can have, at every stage.
 fn fault_logs(gathered: &mut Gathered, rng: &mut Rng) {
     for (n, t, a) in [(4, 1, 1), (7, 1, 2), (9, 2, 2), (31, 1, 14), (32, 4, 6), (10, 1, 1)] {
         let params = Params::new(n, t, a).expect("within the bounds");
-        let session = Session::new(params, rng).with_bad_dealers(usize::from(t), rng);
-        gathered.add("every-fault", with_every_fault(session, rng));
+        let draft = Draft::new(params, rng).with_bad_dealers(usize::from(t), rng);
+        gathered.add("every-fault", with_every_fault(draft, rng));
     }
 }
 
 /// The faults are made before the last record of each stage; after it comes a
 /// record of each tag that the next stage does not take.
-fn with_every_fault(mut session: Session, rng: &mut Rng) -> Vec<u8> {
-    while !session.at_end() {
-        let last = is_last_of_stage(&session, rng);
+fn with_every_fault(mut draft: Draft, rng: &mut Rng) -> Vec<u8> {
+    while !draft.at_end() {
+        let last = is_last_of_stage(&draft, rng);
         if last {
-            add_every_fault(&mut session, rng);
+            add_every_fault(&mut draft, rng);
         }
-        session.step(rng);
+        draft.step(rng);
         if last {
-            add_every_alien(&mut session, rng);
+            add_every_alien(&mut draft, rng);
         }
     }
-    session.bytes
+    draft.bytes
 }
 
 /// A record of each tag that the stage does not take.
-pub fn add_every_alien(session: &mut Session, rng: &mut Rng) {
-    let taken = session.run.stage.takes();
+pub fn add_every_alien(draft: &mut Draft, rng: &mut Rng) {
+    let taken = draft.run.stage.takes();
     for tag in Tag::ALL.into_iter().filter(|&tag| Some(tag) != taken) {
-        let record = spoil::alien(session, tag, rng);
-        session.refuse(&record, Refusal::Stage);
+        let record = spoil::alien(draft, tag, rng);
+        draft.refuse(&record, Refusal::Stage);
     }
 }
 
 /// Does the next good record end the stage?
-fn is_last_of_stage(session: &Session, rng: &mut Rng) -> bool {
-    let mut ahead = session.run.clone();
-    assert_eq!(ahead.give(&session.next_record(rng)), Ok(()));
-    ahead.stage != session.run.stage
+fn is_last_of_stage(draft: &Draft, rng: &mut Rng) -> bool {
+    let mut ahead = draft.run.clone();
+    assert_eq!(ahead.give(&draft.next_record(rng)), Ok(()));
+    ahead.stage != draft.run.stage
 }
 
-fn add_every_fault(session: &mut Session, rng: &mut Rng) {
-    for (record, refusal) in spoil::all_faults(session, rng) {
-        session.refuse(&record, refusal);
+fn add_every_fault(draft: &mut Draft, rng: &mut Rng) {
+    for (record, refusal) in spoil::all_faults(draft, rng) {
+        draft.refuse(&record, refusal);
     }
-    if session.run.stage == Stage::Responding {
-        add_wronged_responses(session, rng);
+    if draft.run.stage == Stage::Responding {
+        add_wronged_responses(draft, rng);
     }
 }
 
 /// Every response number in turn is off by one.
-fn add_wronged_responses(session: &mut Session, rng: &mut Rng) {
-    let good = session.next_record(rng);
-    for u in 0..session.params().combinations() as usize {
+fn add_wronged_responses(draft: &mut Draft, rng: &mut Rng) {
+    let good = draft.next_record(rng);
+    for u in 0..draft.params().combinations() as usize {
         let mut record = good.clone();
         spoil::shift_number(&mut record, 4 + 4 * u, 1);
-        session.refuse(&record, Refusal::Response);
+        draft.refuse(&record, Refusal::Response);
     }
 }

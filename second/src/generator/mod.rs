@@ -1,7 +1,7 @@
 //! Seeded logs and writer requests for comparing this program with another.
 //!
 //! - `committee`: the secrets of a committee and the honest records they give
-//! - `session`: a log in the making, beside the run that reads it
+//! - `draft`: a log in the making, beside the run that reads it
 //! - `spoil`: records made to be refused with an intended number
 //! - `document`: the logs that document 01 gives
 //! - `logs`, `edges`: every kind of log
@@ -13,6 +13,6 @@ pub mod document;
 pub mod edges;
 pub mod logs;
 pub mod run_calls;
-pub mod session;
+pub mod draft;
 pub mod spoil;
 pub mod value_calls;

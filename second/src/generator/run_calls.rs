@@ -1,7 +1,7 @@
 //! Requests to the writers of VE and RE, which are given a run.
 
 use super::calls::{some_params, spoil_buffer, spoil_count, too_large, Gathered};
-use super::session::Session;
+use super::draft::Draft;
 use crate::arith::Q;
 use crate::params::{Params, Party};
 use crate::records::Tag;
@@ -9,21 +9,21 @@ use crate::requests::{Call, Request};
 use crate::rng::Rng;
 use crate::run::{Sets, Stage};
 
-/// A session at a stage, with as many bad dealers as may be; for stage 6 one more.
-fn session_at(stage: Stage, params: Params, rng: &mut Rng) -> Session {
+/// A draft at a stage, with as many bad dealers as may be; for stage 6 one more.
+fn draft_at(stage: Stage, params: Params, rng: &mut Rng) -> Draft {
     let most = params.t as usize;
     let bad = if stage == Stage::Failed { most + 1 } else { most };
-    let mut session = Session::new(params, rng).with_bad_dealers(bad, rng).with_noise(5);
-    session.go_to(stage, rng);
-    assert_eq!(session.run.stage, stage);
-    session
+    let mut draft = Draft::new(params, rng).with_bad_dealers(bad, rng).with_noise(5);
+    draft.go_to(stage, rng);
+    assert_eq!(draft.run.stage, stage);
+    draft
 }
 
-/// A session at another stage than this one.
-fn session_elsewhere(stage: Stage, params: Params, rng: &mut Rng) -> Session {
+/// A draft at another stage than this one.
+fn draft_elsewhere(stage: Stage, params: Params, rng: &mut Rng) -> Draft {
     let others: Vec<Stage> = Stage::ALL.into_iter().filter(|&other| other != stage).collect();
     let other = rng.pick(&others);
-    session_at(other, params, rng)
+    draft_at(other, params, rng)
 }
 
 /// A party number that the committee does not have.
@@ -31,34 +31,34 @@ fn no_party(params: Params, rng: &mut Rng) -> u8 {
     rng.pick(&[0, params.n as u8 + 1, 255])
 }
 
-fn sets(session: &Session) -> &Sets {
-    session.run.sets.as_ref().expect("the sets are fixed")
+fn sets(draft: &Draft) -> &Sets {
+    draft.run.sets.as_ref().expect("the sets are fixed")
 }
 
-fn ve_request(session: &Session, j: Party) -> Request {
-    let call = Call::Ve { log: session.bytes.clone(), j: j as u8 };
+fn ve_request(draft: &Draft, j: Party) -> Request {
+    let call = Call::Ve { log: draft.bytes.clone(), j: j as u8 };
     Request { call, buffer_length: 8 }
 }
 
-fn re_request(session: &Session, j: Party) -> Request {
+fn re_request(draft: &Draft, j: Party) -> Request {
     let call = Call::Re {
-        log: session.bytes.clone(),
+        log: draft.bytes.clone(),
         j: j as u8,
-        key_share: session.committee.key_share(j).number(),
-        shares: session.committee.shares_for(j),
+        key_share: draft.committee.key_share(j).number(),
+        shares: draft.committee.shares_for(j),
     };
-    Request { call, buffer_length: session.length(Tag::Re) as u16 }
+    Request { call, buffer_length: draft.length(Tag::Re) as u16 }
 }
 
 pub fn ve_requests(gathered: &mut Gathered, rng: &mut Rng) {
     for params in some_params() {
-        let session = session_at(Stage::Complaining, params, rng);
-        for &(_, wronged) in session.wrong.iter().take(3) {
-            gathered.add(ve_request(&session, wronged), 0);
+        let draft = draft_at(Stage::Complaining, params, rng);
+        for &(_, wronged) in draft.wrong.iter().take(3) {
+            gathered.add(ve_request(&draft, wronged), 0);
         }
-        gathered.add(ve_request(&session, 1), 0);
-        gathered.add(ve_request(&session, params.n), 0);
-        let good = ve_request(&session, 2);
+        gathered.add(ve_request(&draft, 1), 0);
+        gathered.add(ve_request(&draft, params.n), 0);
+        let good = ve_request(&draft, 2);
         let order = [11, 5, 9];
         gathered
             .add_spoiled(&good, &order, |request, number| spoil_ve(request, params, number, rng));
@@ -70,9 +70,9 @@ pub fn ve_requests(gathered: &mut Gathered, rng: &mut Rng) {
 /// Runs at every stage, and runs of logs that are no logs.
 fn ve_stages(gathered: &mut Gathered, rng: &mut Rng) {
     for stage in Stage::ALL {
-        let session = session_at(stage, some_params()[1], rng);
+        let draft = draft_at(stage, some_params()[1], rng);
         let number = if stage == Stage::Complaining { 0 } else { 11 };
-        gathered.add(ve_request(&session, 1), number);
+        gathered.add(ve_request(&draft, 1), number);
     }
     for log in [&b""[..], b"S", b"senseless"] {
         let call = Call::Ve { log: log.to_vec(), j: 1 };
@@ -82,10 +82,10 @@ fn ve_stages(gathered: &mut Gathered, rng: &mut Rng) {
 
 /// Every party in turn, after two have complained.
 fn ve_again(gathered: &mut Gathered, rng: &mut Rng) {
-    let mut session = session_at(Stage::Complaining, some_params()[1], rng);
-    session.go_on(2, rng);
-    for j in 1..=session.params().n {
-        gathered.add(ve_request(&session, j), 0);
+    let mut draft = draft_at(Stage::Complaining, some_params()[1], rng);
+    draft.go_on(2, rng);
+    for j in 1..=draft.params().n {
+        gathered.add(ve_request(&draft, j), 0);
     }
 }
 
@@ -93,7 +93,7 @@ fn ve_again(gathered: &mut Gathered, rng: &mut Rng) {
 fn spoil_ve(request: &mut Request, params: Params, number: u8, rng: &mut Rng) {
     let Call::Ve { log, j } = &mut request.call else { panic!("not VE") };
     match number {
-        11 => *log = session_elsewhere(Stage::Complaining, params, rng).bytes,
+        11 => *log = draft_elsewhere(Stage::Complaining, params, rng).bytes,
         5 => *j = no_party(params, rng),
         _ => spoil_buffer(request, rng),
     }
@@ -101,21 +101,21 @@ fn spoil_ve(request: &mut Request, params: Params, number: u8, rng: &mut Rng) {
 
 pub fn re_requests(gathered: &mut Gathered, rng: &mut Rng) {
     for params in some_params() {
-        let session = session_at(Stage::Responding, params, rng);
-        gathered.add(re_request(&session, session.holders[0]), 0);
-        gathered.add(re_request(&session, session.holders[1]), 0);
+        let draft = draft_at(Stage::Responding, params, rng);
+        gathered.add(re_request(&draft, draft.holders[0]), 0);
+        gathered.add(re_request(&draft, draft.holders[1]), 0);
     }
     for params in &some_params()[..2] {
-        let session = session_at(Stage::Responding, *params, rng);
-        let good = re_request(&session, session.holders[0]);
+        let draft = draft_at(Stage::Responding, *params, rng);
+        let good = re_request(&draft, draft.holders[0]);
         let order = [11, 5, 14, 10, 6, 9];
         gathered
-            .add_spoiled(&good, &order, |request, number| spoil_re(request, &session, number, rng));
+            .add_spoiled(&good, &order, |request, number| spoil_re(request, &draft, number, rng));
     }
     for stage in Stage::ALL {
-        let session = session_at(stage, some_params()[1], rng);
+        let draft = draft_at(stage, some_params()[1], rng);
         let number = if stage == Stage::Responding { 0 } else { 11 };
-        gathered.add(re_request(&session, session.holders[0]), number);
+        gathered.add(re_request(&draft, draft.holders[0]), number);
     }
     for params in &some_params()[1..3] {
         re_senders(gathered, *params, rng);
@@ -125,24 +125,24 @@ pub fn re_requests(gathered: &mut Gathered, rng: &mut Rng) {
 
 /// Every party in turn, after one response has been taken.
 fn re_senders(gathered: &mut Gathered, params: Params, rng: &mut Rng) {
-    let mut session = session_at(Stage::Responding, params, rng);
-    session.go_on(1, rng);
+    let mut draft = draft_at(Stage::Responding, params, rng);
+    draft.go_on(1, rng);
     for j in 1..=params.n {
-        let number = if session.holders.contains(&j) { 0 } else { 14 };
-        gathered.add(re_request(&session, j), number);
+        let number = if draft.holders.contains(&j) { 0 } else { 14 };
+        gathered.add(re_request(&draft, j), number);
     }
 }
 
 /// Each share in turn out of range, then at the edge: only QUAL's are tested.
 fn re_values(gathered: &mut Gathered, params: Params, rng: &mut Rng) {
-    let session = session_at(Stage::Responding, params, rng);
+    let draft = draft_at(Stage::Responding, params, rng);
     for dealer in 1..=params.n {
-        let number = if sets(&session).qual.contains(&dealer) { 6 } else { 0 };
-        gathered.add(with_share(&session, dealer, too_large(rng)), number);
-        gathered.add(with_share(&session, dealer, Q - 1), 0);
+        let number = if sets(&draft).qual.contains(&dealer) { 6 } else { 0 };
+        gathered.add(with_share(&draft, dealer, too_large(rng)), number);
+        gathered.add(with_share(&draft, dealer, Q - 1), 0);
     }
     for (value, number) in [(Q - 1, 0), (0, 0), (Q, 6), (u32::MAX, 6)] {
-        let mut request = re_request(&session, session.holders[1]);
+        let mut request = re_request(&draft, draft.holders[1]);
         let Call::Re { key_share, .. } = &mut request.call else { panic!("not RE") };
         *key_share = value;
         gathered.add(request, number);
@@ -150,22 +150,22 @@ fn re_values(gathered: &mut Gathered, params: Params, rng: &mut Rng) {
 }
 
 /// A good RE request but for one share.
-fn with_share(session: &Session, dealer: Party, value: u32) -> Request {
-    let mut request = re_request(session, session.holders[0]);
+fn with_share(draft: &Draft, dealer: Party, value: u32) -> Request {
+    let mut request = re_request(draft, draft.holders[0]);
     let Call::Re { shares, .. } = &mut request.call else { panic!("not RE") };
     shares[(dealer - 1) as usize] = value;
     request
 }
 
 /// Makes an RE request one that must be refused so.
-fn spoil_re(request: &mut Request, session: &Session, number: u8, rng: &mut Rng) {
+fn spoil_re(request: &mut Request, draft: &Draft, number: u8, rng: &mut Rng) {
     let Call::Re { log, j, key_share, shares } = &mut request.call else { panic!("not RE") };
-    let params = session.params();
-    let hold = &sets(session).hold;
+    let params = draft.params();
+    let hold = &sets(draft).hold;
     let outsiders: Vec<Party> = (1..=params.n).filter(|party| !hold.contains(party)).collect();
-    let qual: Vec<Party> = sets(session).qual.iter().copied().collect();
+    let qual: Vec<Party> = sets(draft).qual.iter().copied().collect();
     match number {
-        11 => *log = session_elsewhere(Stage::Responding, params, rng).bytes,
+        11 => *log = draft_elsewhere(Stage::Responding, params, rng).bytes,
         5 => *j = no_party(params, rng),
         14 => *j = rng.pick(&outsiders) as u8,
         10 => spoil_count(shares, rng),

@@ -1,7 +1,7 @@
 //! Records made to be refused, each with the number it must be refused with.
 
 use super::committee::random_params;
-use super::session::Session;
+use super::draft::Draft;
 use crate::arith::{Element, Scalar, P, Q};
 use crate::params::Party;
 use crate::records::{setup_length, Tag};
@@ -31,20 +31,20 @@ fn faults_of(tag: Tag) -> &'static [Refusal] {
     }
 }
 
-/// The faults that can be made at this point of a session, in order.
-fn possible_faults(session: &Session) -> Vec<Refusal> {
-    let tag = session.run.stage.takes().expect("a stage that takes a tag");
+/// The faults that can be made at this point of a draft, in order.
+fn possible_faults(draft: &Draft) -> Vec<Refusal> {
+    let tag = draft.run.stage.takes().expect("a stage that takes a tag");
     let possible = |&fault: &Refusal| match fault {
-        Refusal::Again => !senders(session).is_empty(),
-        Refusal::Mask => session.params().n < 32,
+        Refusal::Again => !senders(draft).is_empty(),
+        Refusal::Mask => draft.params().n < 32,
         _ => true,
     };
     faults_of(tag).iter().copied().filter(possible).collect()
 }
 
 /// The senders of the accepted records of the present stage.
-fn senders(session: &Session) -> Vec<Party> {
-    let run = &session.run;
+fn senders(draft: &Draft) -> Vec<Party> {
+    let run = &draft.run;
     match run.stage {
         Stage::Dealing => run.dealings.iter().map(|dealing| dealing.dealer).collect(),
         Stage::Complaining => run.complaints.iter().map(|row| row.holder).collect(),
@@ -55,25 +55,25 @@ fn senders(session: &Session) -> Vec<Party> {
 
 /// Every set of faults that can be made here, as records of the right stage.
 /// Several faults in one record: the first in order gives the number.
-pub fn all_faults(session: &Session, rng: &mut Rng) -> Vec<(Vec<u8>, Refusal)> {
-    let possible = possible_faults(session);
+pub fn all_faults(draft: &Draft, rng: &mut Rng) -> Vec<(Vec<u8>, Refusal)> {
+    let possible = possible_faults(draft);
     let mut found = Vec::new();
     for choice in 1..1usize << possible.len() {
         let chosen = (0..possible.len()).filter(|place| choice >> place & 1 == 1);
         let faults: Vec<Refusal> = chosen.map(|place| possible[place]).collect();
-        found.push((faulty(session, &faults, rng), faults[0]));
+        found.push((faulty(draft, &faults, rng), faults[0]));
     }
     found
 }
 
 /// A record with some fault of the stage, or of a tag that it does not take.
-pub fn random_fault(session: &Session, rng: &mut Rng) -> (Vec<u8>, Refusal) {
-    let alien_only = session.at_end();
-    let alien_possible = session.run.stage != Stage::Fresh;
+pub fn random_fault(draft: &Draft, rng: &mut Rng) -> (Vec<u8>, Refusal) {
+    let alien_only = draft.at_end();
+    let alien_possible = draft.run.stage != Stage::Fresh;
     if alien_only || alien_possible && rng.chance(25) {
-        return (random_alien(session, rng), Refusal::Stage);
+        return (random_alien(draft, rng), Refusal::Stage);
     }
-    let possible = possible_faults(session);
+    let possible = possible_faults(draft);
     let mut faults = vec![rng.below(possible.len())];
     if rng.chance(25) {
         faults.push(rng.below(possible.len()));
@@ -81,21 +81,21 @@ pub fn random_fault(session: &Session, rng: &mut Rng) -> (Vec<u8>, Refusal) {
     faults.sort();
     faults.dedup();
     let faults: Vec<Refusal> = faults.iter().map(|&place| possible[place]).collect();
-    (faulty(session, &faults, rng), faults[0])
+    (faulty(draft, &faults, rng), faults[0])
 }
 
 /// The next good record with these faults; the later ones are made first, so
 /// that an earlier one is never undone.
-fn faulty(session: &Session, faults: &[Refusal], rng: &mut Rng) -> Vec<u8> {
-    let mut record = session.next_record(rng);
+fn faulty(draft: &Draft, faults: &[Refusal], rng: &mut Rng) -> Vec<u8> {
+    let mut record = draft.next_record(rng);
     for &fault in faults.iter().rev() {
-        make_fault(session, fault, &mut record, rng);
+        make_fault(draft, fault, &mut record, rng);
     }
     record
 }
 
-fn make_fault(session: &Session, fault: Refusal, record: &mut Vec<u8>, rng: &mut Rng) {
-    let n = session.params().n;
+fn make_fault(draft: &Draft, fault: Refusal, record: &mut Vec<u8>, rng: &mut Rng) {
+    let n = draft.params().n;
     match fault {
         Refusal::Reserved => {
             let place = reserved_place(record, rng);
@@ -103,15 +103,15 @@ fn make_fault(session: &Session, fault: Refusal, record: &mut Vec<u8>, rng: &mut
         }
         Refusal::Bounds => break_bounds(record, rng),
         Refusal::Party => record[2] = rng.pick(&[0, n as u8 + 1, 255]),
-        Refusal::Element => break_element(session, record, rng),
-        Refusal::Scalar => break_scalar(session, record, rng),
+        Refusal::Element => break_element(draft, record, rng),
+        Refusal::Scalar => break_scalar(draft, record, rng),
         Refusal::Mask => {
             let bit = rng.between(n, 31);
             set_bit(record, bit);
         }
-        Refusal::Again => record[2] = rng.pick(&senders(session)) as u8,
-        Refusal::Outsider => record[2] = rng.pick(&outsiders(session)) as u8,
-        Refusal::FalseBlame => blame_falsely(session, record, rng),
+        Refusal::Again => record[2] = rng.pick(&senders(draft)) as u8,
+        Refusal::Outsider => record[2] = rng.pick(&outsiders(draft)) as u8,
+        Refusal::FalseBlame => blame_falsely(draft, record, rng),
         Refusal::Response => break_response(record, rng),
         _ => panic!("not a fault of a whole record"),
     }
@@ -141,10 +141,10 @@ fn break_bounds(record: &mut Vec<u8>, rng: &mut Rng) {
 }
 
 /// Puts a number that is no element in place of an element.
-fn break_element(session: &Session, record: &mut [u8], rng: &mut Rng) {
+fn break_element(draft: &Draft, record: &mut [u8], rng: &mut Rng) {
     let (first, count) = match Tag::of(record) {
-        Some(Tag::Su) => (6, session.params().t as usize + 1),
-        _ => (4, session.params().quorum()),
+        Some(Tag::Su) => (6, draft.params().t as usize + 1),
+        _ => (4, draft.params().quorum()),
     };
     let offset = first + 4 * edge_or_any(count, rng);
     let number = not_an_element(get(record, offset), rng);
@@ -160,9 +160,9 @@ fn not_an_element(element: u32, rng: &mut Rng) -> u32 {
 }
 
 /// Puts a number of q or more in place of a scalar.
-fn break_scalar(session: &Session, record: &mut [u8], rng: &mut Rng) {
+fn break_scalar(draft: &Draft, record: &mut [u8], rng: &mut Rng) {
     let first = match Tag::of(record) {
-        Some(Tag::De) => 4 + 4 * session.params().quorum(),
+        Some(Tag::De) => 4 + 4 * draft.params().quorum(),
         _ => 4,
     };
     let count = (record.len() - first) / 4;
@@ -172,16 +172,16 @@ fn break_scalar(session: &Session, record: &mut [u8], rng: &mut Rng) {
 }
 
 /// The parties that are not in HOLD.
-fn outsiders(session: &Session) -> Vec<Party> {
-    let hold = &session.run.sets.as_ref().expect("the sets are fixed").hold;
-    (1..=session.params().n).filter(|party| !hold.contains(party)).collect()
+fn outsiders(draft: &Draft) -> Vec<Party> {
+    let hold = &draft.run.sets.as_ref().expect("the sets are fixed").hold;
+    (1..=draft.params().n).filter(|party| !hold.contains(party)).collect()
 }
 
 /// Blames a dealer who has not wronged the sender.
-fn blame_falsely(session: &Session, record: &mut [u8], rng: &mut Rng) {
+fn blame_falsely(draft: &Draft, record: &mut [u8], rng: &mut Rng) {
     let holder = Party::from(record[2]);
     let blameless: Vec<Party> =
-        (1..=session.params().n).filter(|&i| !session.run.has_wronged(i, holder)).collect();
+        (1..=draft.params().n).filter(|&i| !draft.run.has_wronged(i, holder)).collect();
     set_bit(record, rng.pick(&blameless) - 1);
 }
 
@@ -214,21 +214,21 @@ fn edge_or_any(count: usize, rng: &mut Rng) -> usize {
 }
 
 /// A whole record of a tag that the stage does not take.
-pub fn random_alien(session: &Session, rng: &mut Rng) -> Vec<u8> {
-    let taken = session.run.stage.takes();
+pub fn random_alien(draft: &Draft, rng: &mut Rng) -> Vec<u8> {
+    let taken = draft.run.stage.takes();
     let others: Vec<Tag> = Tag::ALL.into_iter().filter(|&tag| Some(tag) != taken).collect();
     let tag = rng.pick(&others);
-    alien(session, tag, rng)
+    alien(draft, tag, rng)
 }
 
 /// A whole record of a tag, with whatever contents.
-pub fn alien(session: &Session, tag: Tag, rng: &mut Rng) -> Vec<u8> {
+pub fn alien(draft: &Draft, tag: Tag, rng: &mut Rng) -> Vec<u8> {
     match tag {
         Tag::Su => alien_setup(rng),
-        Tag::De => session.committee.de(rng.between(1, session.params().n)),
-        Tag::Ch => session.committee.ch(rng),
+        Tag::De => draft.committee.de(rng.between(1, draft.params().n)),
+        Tag::Ch => draft.committee.ch(rng),
         _ => {
-            let body = rng.bytes(session.length(tag) - 2);
+            let body = rng.bytes(draft.length(tag) - 2);
             [tag.letters().as_slice(), &body].concat()
         }
     }

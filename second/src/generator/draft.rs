@@ -12,7 +12,7 @@ use crate::rng::Rng;
 use crate::run::{Run, Stage};
 use std::collections::BTreeSet;
 
-pub struct Session {
+pub struct Draft {
     pub committee: Committee,
     pub run: Run,
     pub bytes: Vec<u8>,
@@ -28,12 +28,12 @@ pub struct Session {
     pub noise: u32,
 }
 
-impl Session {
+impl Draft {
     /// A committee with its senders drawn by lot; all shares are right.
-    pub fn new(params: Params, rng: &mut Rng) -> Session {
+    pub fn new(params: Params, rng: &mut Rng) -> Draft {
         let parties: Vec<Party> = (1..=params.n).collect();
         let holders = rng.some_of(&parties, params.majority());
-        Session {
+        Draft {
             committee: Committee::random(params, rng),
             run: Run::fresh(),
             bytes: Vec::new(),
@@ -46,9 +46,9 @@ impl Session {
         }
     }
 
-    pub fn random(rng: &mut Rng) -> Session {
+    pub fn random(rng: &mut Rng) -> Draft {
         let params = random_params(None, rng);
-        Session::new(params, rng)
+        Draft::new(params, rng)
     }
 
     pub fn params(&self) -> Params {
@@ -56,7 +56,7 @@ impl Session {
     }
 
     /// So many of the dealers send a wrong share to some of the holders heard.
-    pub fn with_bad_dealers(mut self, count: usize, rng: &mut Rng) -> Session {
+    pub fn with_bad_dealers(mut self, count: usize, rng: &mut Rng) -> Draft {
         for dealer in rng.some_of(&self.dealers, count) {
             let wronged = rng.between(1, 3) as usize;
             let holders = rng.some_of(&self.holders, wronged);
@@ -65,13 +65,13 @@ impl Session {
         self
     }
 
-    pub fn with_noise(mut self, percent: u32) -> Session {
+    pub fn with_noise(mut self, percent: u32) -> Draft {
         self.noise = percent;
         self
     }
 
     /// All holders leave their complaints out.
-    pub fn with_silence(mut self) -> Session {
+    pub fn with_silence(mut self) -> Draft {
         self.silent = self.holders.iter().copied().collect();
         self
     }

@@ -1,0 +1,148 @@
+-- `record_length` meets its contract: each way of the code is one tag of the definition. Assumes nothing.
+use mathlib.Core.Path.{_≡_, refl, sym, ap, _∙_}
+use mathlib.Core.List.{List}
+use Prim.Native.Nat.{ℕ}
+use borrow.Author.Needs.{needs}
+use borrow.Author.Tests.{le-leb, lt-leb, eq-eqb, ne-eqb}
+use lib.Dec.{eqb}
+use Rattle.lists.specs.Tests.{pick}
+use Rattle.records.specs.Tags.{Tag, SU, DE, VE, CH, RE, unknown, code, tagOf}
+use Rattle.run.specs.declared.Run.{Run}
+use Rattle.log.specs.Cutting.{lengthAt, lengthOf}
+use Rattle.log.proofs.record_length.Statement.{statement}
+use Rattle.log.proofs.record_length.Tie as tie
+
+-- the tag that a number stands for
+ofCode : ℕ → Tag
+ofCode k = pick (eqb k 1) SU (pick (eqb k 2) DE (pick (eqb k 3) VE (pick (eqb k 4) CH (pick (eqb k 5) RE unknown))))
+
+ofCode-code : (g : Tag) → ofCode (code g) ≡ g
+unfolding ofCode
+ofCode-code SU = refl
+ofCode-code DE = refl
+ofCode-code VE = refl
+ofCode-code CH = refl
+ofCode-code RE = refl
+ofCode-code unknown = refl
+
+-- a number that the code found is a tag's
+tag-is : {k : ℕ} (g h : Tag) → k ≡ code g → k ≡ code h → g ≡ h
+tag-is g h p q = sym (ofCode-code g) ∙ ap ofCode (sym p ∙ q) ∙ ofCode-code h
+
+-- and otherwise none's
+tag-none : {k : ℕ} (g : Tag) → k ≡ code g → (k ≡ 1 → ⊥) → (k ≡ 2 → ⊥) → (k ≡ 3 → ⊥) → (k ≡ 4 → ⊥) → (k ≡ 5 → ⊥) → g ≡ unknown
+unfolding ofCode
+tag-none {k} g p d1 d2 d3 d4 d5 =
+    sym (ofCode-code g) ∙ ap ofCode (sym p) ∙ simp (ne-eqb k 1 d1, ne-eqb k 2 d2, ne-eqb k 3 d3, ne-eqb k 4 d4, ne-eqb k 5 d5)
+
+module _ (r : Run) (s : List ℕ) where
+  -- before a setup only SU has a length
+  none-yet : (g : Tag) → (code g ≡ 1 → ⊥) → r .stage ≡ 0 → lengthAt g r s ≡ 0
+  unfolding lengthAt
+  none-yet SU d e = absurd (d refl)
+  none-yet DE d e = rw (eq-eqb _ _ e)
+  none-yet VE d e = rw (eq-eqb _ _ e)
+  none-yet CH d e = rw (eq-eqb _ _ e)
+  none-yet RE d e = rw (eq-eqb _ _ e)
+  none-yet unknown d e = refl
+
+tag-requires : tie.Need-tag-requires
+tag-requires c κs = search needs
+
+returns : tie.Need-returns
+unfolding lengthOf lengthAt
+returns c =
+    let t = c .before .before in
+    rw (tag-is (tagOf (t .before .before .args .rest .now)) SU (t .tag .ensures) (c .before .if1 .taken), lt-leb 6 _ (c .if2 .taken))
+
+byte-requires : tie.Need-byte-requires
+byte-requires c κs = search needs
+
+setup-length-requires : tie.Need-setup-length-requires
+setup-length-requires c κs = search needs
+
+returns-2 : tie.Need-returns-2
+unfolding lengthOf lengthAt
+returns-2 c =
+    let b = c .before in
+    let t = b .before .before .before in
+    rw (
+      tag-is (tagOf (t .before .before .args .rest .now)) SU (t .tag .ensures) (b .before .before .if1 .taken),
+      le-leb 6 _ (b .before .if2 .left),
+      ← b .byte .ensures,
+    )
+    (c .setup-length .ensures)
+
+returns-3 : tie.Need-returns-3
+unfolding lengthOf
+returns-3 c =
+    let t = c .before .before in
+    let a = t .before .before .args in
+    sym (none-yet (a .run) (a .rest .now) (tagOf (a .rest .now)) (λ e. c .before .if1 .left (t .tag .ensures ∙ e)) (c .if3 .taken))
+
+dealing-length-requires : tie.Need-dealing-length-requires
+dealing-length-requires c κs = search needs
+
+complaint-length-requires : tie.Need-complaint-length-requires
+complaint-length-requires c κs = search needs
+
+challenges-length-requires : tie.Need-challenges-length-requires
+challenges-length-requires c κs = search needs
+
+response-length-requires : tie.Need-response-length-requires
+response-length-requires c κs = search needs
+
+returns-4 : tie.Need-returns-4
+unfolding lengthOf lengthAt
+returns-4 c =
+    let m = c .before in
+    let t = m .before .before .before in
+    rw (tag-is (tagOf (t .before .before .args .rest .now)) DE (t .tag .ensures) (m .match .keys1), ne-eqb _ 0 (m .before .if3 .left)) (c .dealing-length .ensures)
+
+returns-5 : tie.Need-returns-5
+unfolding lengthOf lengthAt
+returns-5 c =
+    let m = c .before in
+    let t = m .before .before .before in
+    rw (tag-is (tagOf (t .before .before .args .rest .now)) VE (t .tag .ensures) (m .match .keys2), ne-eqb _ 0 (m .before .if3 .left)) (c .complaint-length .ensures)
+
+returns-6 : tie.Need-returns-6
+unfolding lengthOf lengthAt
+returns-6 c =
+    let m = c .before in
+    let t = m .before .before .before in
+    rw (tag-is (tagOf (t .before .before .args .rest .now)) CH (t .tag .ensures) (m .match .keys3), ne-eqb _ 0 (m .before .if3 .left)) (c .challenges-length .ensures)
+
+returns-7 : tie.Need-returns-7
+unfolding lengthOf lengthAt
+returns-7 c =
+    let m = c .before in
+    let t = m .before .before .before in
+    rw (tag-is (tagOf (t .before .before .args .rest .now)) RE (t .tag .ensures) (m .match .keys4), ne-eqb _ 0 (m .before .if3 .left)) (c .response-length .ensures)
+
+returns-8 : tie.Need-returns-8
+unfolding lengthOf lengthAt
+returns-8 c =
+    let t = c .before .before .before in
+    let n = c .match .rest in
+    rw (tag-none (tagOf (t .before .before .args .rest .now)) (t .tag .ensures) (c .before .before .if1 .left) (n .0 .0 .0 .1) (n .0 .0 .1) (n .0 .1) (n .1))
+
+pub record-length-spec : {M : Type 1} → statement M
+record-length-spec =
+    tie.close
+    (tie.spec
+    tag-requires
+    returns
+    byte-requires
+    setup-length-requires
+    returns-2
+    returns-3
+    dealing-length-requires
+    complaint-length-requires
+    challenges-length-requires
+    response-length-requires
+    returns-4
+    returns-5
+    returns-6
+    returns-7
+    returns-8)
