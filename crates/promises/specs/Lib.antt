@@ -8,3 +8,4 @@ pub mod Places
 pub mod Made
 pub mod Finished
 pub mod Demand3
+pub mod Pages
