@@ -82,6 +82,10 @@ product v w = element (v .0 * w .0 % P)
 unfoldable pub raise : Element → Scalar → Element
 raise v x = element (powerOf P (v .0) (x .0))
 
+-- V to the power of a whole number
+abbrev pub powered : Element → ℕ → Element
+powered v e = raise v (scalar e)
+
 -- ---- what the laws are about
 
 abbrev pub IsScalar : Scalar → Type 0

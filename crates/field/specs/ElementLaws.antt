@@ -4,17 +4,18 @@ use mathlib.Core.Logic.{_≢_}
 use mathlib.Core.Bool.{Bool, true, false, _&&_}
 use Prim.Native.Nat.{ℕ, zero, suc, _+_, _*_, _-_, _^_, _%_, _≤_, _<_}
 use native.Mathlib.Omega.{arith}
-use native.Mathlib.Nat.{mod-lt, mod-eq-of-lt, mul-comm, pos-of-ne-zero}
+use native.Mathlib.Nat.{mod-lt, mod-eq-of-lt, mul-comm, mul-zero, pow-suc, pos-of-ne-zero}
+use native.Mathlib.Numerals.{add-one}
 use lib.Dec.{lit<, ltb, eqb}
 use lib.Pow as N
 use borrow.Author.Tests.{lt-ltb, ltb-true, eq-eqb, eqb-true}
 use Rattle.field.specs.declared.Scalar.{Scalar}
 use Rattle.field.specs.declared.Element.{Element}
-use Rattle.field.specs.Definitions.{q, P, scalar, element, generator, powerTo, powerOf, IsScalar, IsElement, isElement, reduced, plus, times, product, raise}
+use Rattle.field.specs.Definitions.{q, P, scalar, element, generator, powerTo, powerOf, IsScalar, IsElement, isElement, reduced, plus, times, power, product, raise, powered}
 use Rattle.field.specs.Congruence.{mul-mod, strip, same}
 use Rattle.field.specs.Powers as W
 use Rattle.field.specs.Order as O
-use Rattle.field.specs.ScalarLaws.{1<q, range, inverses}
+use Rattle.field.specs.ScalarLaws.{1<q, range, inverses, power-whole}
 
 pub 1<P : 1 < P
 unfolding P
@@ -128,6 +129,20 @@ pub raise-one : (v : Element) → v .0 < P → raise v (scalar 1) ≡ v
 unfolding raise
 raise-one v l = ap element (W.power-is P (v .0) 1 ∙ ap (λ (x : ℕ). x % P) (W.pow-one (v .0)) ∙ mod-eq-of-lt l)
 
+-- a factor counts modulo P
+pub product-powered : (v w : Element) → product v (powered w 1) ≡ product v w
+unfolding product raise
+product-powered v w = ap element (rw (W.power-is P (w .0) 1, W.pow-one (w .0)) (simp strip (same P (omega arith))))
+
+pub zero-powered : (e : ℕ) → powered (element 0) (e + 1) ≡ element 0
+unfolding raise
+zero-powered e = ap element (W.power-is P 0 (e + 1) ∙ ap (λ (x : ℕ). x % P) (rw (add-one e) (pow-suc 0 e ∙ mul-zero (0 ^ e))) ∙ mod-eq-of-lt 0<P)
+
+-- a power of a power
+pub powered-powered : (v : Element) (a b : ℕ) → powered (powered v a) b ≡ powered v (a * b)
+unfolding raise
+powered-powered v a b = ap element (sym (power-mul (v .0) a b))
+
 -- two powers in either order
 pub raise-raise : (v : Element) (x y : Scalar) → raise (raise v x) y ≡ raise (raise v y) x
 unfolding raise
@@ -142,6 +157,10 @@ module _ (v : Element) (h : IsElement v) where
   pub raise-reduced : (x : Scalar) → raise v (reduced (x .0)) ≡ raise v x
   unfolding raise reduced
   raise-reduced x = ap element (exponent-mod (x .0))
+
+  -- a power of a scalar as an exponent, as a whole number
+  pub raise-power : (x e : ℕ) → raise v (power (scalar x) e) ≡ powered v (x ^ e)
+  raise-power x e = ap (raise v) (power-whole (scalar x) e) ∙ raise-reduced (scalar (x ^ e))
 
   pub raise-plus : (x y : Scalar) → raise v (plus x y) ≡ product (raise v x) (raise v y)
   unfolding raise plus product

@@ -18,14 +18,15 @@ fn power_of(modulus: u32, base: u32, exponent: u32) -> u32
     let mut product: u64 = 1;
     let mut square = base as u64 % m;
     let mut left = exponent;
-    while 0 < left {
+    while 1 < left {
         if left % 2 == 1 {
             product = product * square % m;
         }
         square = square * square % m;
         left = left / 2;
     }
-    (product % m) as u32
+    let last = if left == 1 { square } else { 1 };
+    (product * last % m) as u32
 }
 
 impl Scalar {

@@ -9,11 +9,13 @@ use Rattle.algebra.specs.Exponents.{interp, interp-poly, PolyG, polyG-unit, pol
 use Rattle.lists.specs.Tests.{pick}
 use Rattle.field.specs.declared.Scalar.{Scalar}
 use Rattle.field.specs.declared.Element.{Element}
-use Rattle.field.specs.Definitions.{element, IsElement, product, raise}
+use Rattle.field.specs.Definitions.{scalar, element, IsElement, reduced, product, raise, powered}
+use Rattle.field.specs.ScalarLaws.{reduced-range}
+use Rattle.field.specs.ElementLaws.{raise-reduced}
 use Rattle.interpolation.specs.Definitions.{elementAt}
 use Rattle.interpolation.specs.Structures.{Residue, residue, Zq, inv, Member, member-path, Group, Powers}
 use Rattle.interpolation.specs.Laws.{DistinctPoints, residues, apart, member, member-val, elementAt-val, elementAt-element}
-use Rattle.interpolation.specs.Polynomials.{Polynomial}
+use Rattle.interpolation.specs.Polynomials.{Polynomial, polynomial-constant}
 
 -- h is a product of elements raised to polynomial functions with at most n coefficients
 pub record Exponential (n : ℕ) (h : Scalar → Element) : Type 0 where
@@ -52,6 +54,12 @@ exponential-raise p r = record {
   poly = polyG-pow Powers (p .poly) (r .poly);
   agrees = λ x. ap₂ raise (p .agrees x) (r .agrees x);
 }
+
+-- a power by a whole number
+pub exponential-powered : {n : ℕ} {h : Scalar → Element} → Exponential n h → (e : ℕ) → Exponential n (λ x. powered (h x) e)
+exponential-powered {n} {h} p e =
+    let scaled = exponential-wider {m = n} (omega arith) (exponential-raise p (polynomial-constant (reduced e) (reduced-range e))) in
+    record { lift = scaled .lift; poly = scaled .poly; agrees = λ x. scaled .agrees x ∙ raise-reduced (h x) (exponential-element p x) (scalar e) }
 
 -- one that is taken or left out
 pub exponential-pick : {n : ℕ} {h : Scalar → Element} (b : Bool) → (b ≡ true → Exponential n h) → Exponential n (λ x. pick b (h x) (element 1))

@@ -4,5 +4,6 @@ pub mod Laws
 pub mod Polynomials
 pub mod Exponentials
 pub mod Rows
+pub mod Bases
 pub mod Products
 pub mod Turns

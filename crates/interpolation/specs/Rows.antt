@@ -3,13 +3,16 @@ use mathlib.Core.Path.{_≡_, ap, ap₂, _∙_}
 use mathlib.Core.List.{List}
 use Prim.Native.Nat.{ℕ, _≤_, _<_, min}
 use native.Mathlib.Omega.{arith}
+use lib.Dec.{eqb}
 use lib.ListN.{getD}
 use Rattle.algebra.specs.Fold.{fold, fold-cong}
+use Rattle.lists.specs.Tests.{pick}
 use Rattle.lists.specs.Stores.{stored, filled, length-filled, stored-from, stored-cong}
 use Rattle.field.specs.declared.Scalar.{Scalar}
 use Rattle.field.specs.declared.Element.{Element}
-use Rattle.field.specs.Definitions.{scalar, element, plus, times, product, raise}
+use Rattle.field.specs.Definitions.{scalar, element, plus, minus, times, inverse, product, raise}
 use Rattle.interpolation.specs.declared.Row.{Row}
+use Rattle.interpolation.specs.declared.Basis.{Basis}
 use Rattle.interpolation.specs.Definitions.{factor, weight, scalarAt, elementAt}
 
 -- how many scalars a row has
@@ -27,6 +30,22 @@ listed m f = record { at = stored (filled 64 (scalar 0)) 0 (min m 64) f; count =
 -- the weights at x of a row of points
 unfoldable pub weightsOf : Row → Scalar → Row
 weightsOf r x = listed (size r) (λ i. weight (nth r) (size r) i x)
+
+-- the product of x's differences from the m points but point i
+unfoldable pub differences : (ℕ → Scalar) → ℕ → ℕ → Scalar → Scalar
+differences pt m i x = fold times (scalar 1) m (λ l. pick (eqb l i) (scalar 1) (minus x (pt l)))
+
+-- what does not depend on x in weight i: the inverse of the product of point i's differences from the others
+unfoldable pub scale : (ℕ → Scalar) → ℕ → ℕ → Scalar
+scale pt m i = inverse (differences pt m i (pt i))
+
+-- a row of points with their scales
+unfoldable pub basisOf : Row → Basis
+basisOf r = record { points = r; scales = listed (size r) (scale (nth r) (size r)) }
+
+-- the weights at x of a basis
+unfoldable pub weightsBy : Basis → Scalar → Row
+weightsBy b x = listed (size (b .points)) (λ i. times (differences (nth (b .points)) (size (b .points)) i x) (nth (b .scales) i))
 
 -- with a row of weights: the sum of weight × value, and the product of value^weight
 unfoldable pub sumOf : Row → List Scalar → Scalar

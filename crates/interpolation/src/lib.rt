@@ -1,8 +1,9 @@
 // Points, weights, and the interpolation of scalars and of elements.
 ghost use mathlib.Core.Path.{_≡_};
 ghost use Prim.Native.Nat.{_+_};
-ghost use Rattle.interpolation.specs.Definitions.{point, slot, committedPoint, weight};
-ghost use Rattle.interpolation.specs.Rows.{size, nth, listed, weightsOf, sumOf, productOf};
+ghost use Rattle.interpolation.specs.Definitions.{point, slot, committedPoint};
+ghost use Rattle.interpolation.specs.Rows.{size, nth, listed, weightsOf, scale, basisOf, weightsBy, sumOf, productOf};
+ghost use Rattle.interpolation.specs.Bases.{partialProducts, reversed};
 use field::Element;
 use field::Scalar;
 
@@ -10,6 +11,12 @@ use field::Scalar;
 pub struct Row {
     pub at: [Scalar; 64],
     pub count: u8,
+}
+
+// Points, and for each the inverse of the product of its differences from the others: what the weights at any x rest on.
+pub struct Basis {
+    pub points: Row,
+    pub scales: Row,
 }
 
 // The integer x - y as a point.
@@ -51,24 +58,6 @@ impl Row {
         if self.count < 64 { self.count } else { 64 }
     }
 
-    // Weight i of these points at x, with one inverse.
-    fn weight(self, i: u8, x: Scalar) -> Scalar
-        ensures { λ r. ⌜ r ≡ weight (nth self) (size self) i x ⌝ }
-    {
-        let m = self.len();
-        let own = self.item(i);
-        let mut above = Scalar::ONE;
-        let mut below = Scalar::ONE;
-        for l in 0..m {
-            if l != i {
-                let other = self.at[l as usize];
-                above = above.mul(x.sub(other));
-                below = below.mul(own.sub(other));
-            }
-        }
-        above.mul(below.inverse())
-    }
-
     // Scalar i, and 0 past the array's end.
     fn item(self, i: u8) -> Scalar
         ensures { λ r. ⌜ r ≡ nth self i ⌝ }
@@ -80,16 +69,76 @@ impl Row {
         }
     }
 
-    // The weights of these points at x.
-    pub fn weights(self, x: Scalar) -> Row
-        ensures { λ r. ⌜ r ≡ weightsOf self x ⌝ }
+    // The inverse of the product of point i's differences from the others.
+    fn scale(self, i: u8) -> Scalar
+        ensures { λ r. ⌜ r ≡ scale (nth self) (size self) i ⌝ }
+    {
+        let m = self.len();
+        let own = self.item(i);
+        let mut below = Scalar::ONE;
+        for l in 0..m {
+            if l != i {
+                let other = self.at[l as usize];
+                below = below.mul(own.sub(other));
+            }
+        }
+        below.inverse()
+    }
+
+    // The basis of these points, with one inverse a point.
+    pub fn basis(self) -> Basis
+        ensures { λ r. ⌜ r ≡ basisOf self ⌝ }
+    {
+        let m = self.len();
+        let mut scales = [Scalar::ZERO; 64];
+        for i in 0..m {
+            scales[i as usize] = self.scale(i);
+        }
+        Basis {
+            points: self,
+            scales: Row {
+                at: scales,
+                count: m,
+            },
+        }
+    }
+
+    // For each i the product of x's differences from the first i points.
+    fn partial_products(self, x: Scalar) -> Row
+        ensures { λ r. ⌜ r ≡ partialProducts self x ⌝ }
+    {
+        let m = self.len();
+        let mut products = [Scalar::ZERO; 64];
+        let mut product = Scalar::ONE;
+        for i in 0..m {
+            products[i as usize] = product;
+            let other = self.at[i as usize];
+            product = product.mul(x.sub(other));
+        }
+        Row {
+            at: products,
+            count: m,
+        }
+    }
+
+    // The points in the other order.
+    fn reversed(self) -> Row
+        ensures { λ r. ⌜ r ≡ reversed self ⌝ }
     {
         let m = self.len();
         let mut at = [Scalar::ZERO; 64];
         for i in 0..m {
-            at[i as usize] = self.weight(i, x);
+            let from = m - 1 - i;
+            at[i as usize] = self.at[from as usize];
         }
         Row { at: at, count: m }
+    }
+
+    // The weights of these points at x. At many x, take the basis once.
+    pub fn weights(self, x: Scalar) -> Row
+        ensures { λ r. ⌜ r ≡ weightsOf self x ⌝ }
+    {
+        self.basis().weights(x)
     }
 
     // The sum of weight × value, of these weights.
@@ -118,5 +167,28 @@ impl Row {
             product = product.mul(v.pow(w));
         }
         product
+    }
+}
+
+impl Basis {
+    // The weights of the points at x, each from the products of x's differences from the points before it and after it.
+    pub fn weights(self, x: Scalar) -> Row
+        ensures { λ r. ⌜ r ≡ weightsBy self x ⌝ }
+    {
+        let points = self.points;
+        let scales = self.scales;
+        let m = points.len();
+        let prefix = points.partial_products(x);
+        let suffix = points.reversed().partial_products(x);
+        let mut weights = [Scalar::ZERO; 64];
+        for i in 0..m {
+            let k = m - 1 - i;
+            let others = prefix.at[i as usize].mul(suffix.at[k as usize]);
+            weights[i as usize] = others.mul(scales.at[i as usize]);
+        }
+        Row {
+            at: weights,
+            count: m,
+        }
     }
 }

@@ -2,10 +2,11 @@
 ghost use mathlib.Core.Path.{_≡_};
 ghost use mathlib.Core.Bool.{true};
 ghost use mathlib.Core.List.{[], _∷_, _++_};
-ghost use Prim.Native.Nat.{_+_, _*_, _≤_, _<_};
+ghost use Prim.Native.Nat.{_+_, _*_, _-_, _≤_, _<_};
 ghost use lib.ListN.{length};
 ghost use lib.Seq.{sets};
 ghost use Rattle.records.specs.Parameters.{mostParties, batch};
+ghost use Rattle.protocol.specs.Arrays.{powersAt};
 ghost use Rattle.run.specs.Runs.{fresh, wellFormed};
 ghost use Rattle.log.specs.Cutting.{lengthOf, recordsOf, runOf};
 ghost use Rattle.log.specs.Report.{decimal, field, line, refuseWord, sigWord, refusalLines, setLine, signatureLines, closing};
@@ -151,20 +152,19 @@ fn put_set(out: &mut [u8], at: usize, word: &[u8], n: u8, mask: u64) -> usize
     next + 1
 }
 
-// The signature lines of one u: the committed values combined for u, and R(u,k) from them at each slot k.
-fn put_row(out: &mut [u8], at: usize, run: Run, u: u8) -> usize
-    requires { ⌜ (wellFormed run ≡ true) × (0 < u) × (u ≤ batch (run .setup .n) (run .setup .t)) × (at + 48 * run .setup .a ≤ length (now out)) ⌝ }
+// The signature lines of one u, from the powers of the committed values for it: they are combined, and give R(u,k) at each slot k.
+fn put_row(out: &mut [u8], at: usize, run: Run, powers: [Element; 1024], u: u8) -> usize
+    requires { ⌜ (wellFormed run ≡ true) × (0 < u) × (u ≤ batch (run .setup .n) (run .setup .t)) × (powers ≡ powersAt (run .setup .n) (run .dealings .commitments) (u - 1)) × (at + 48 * run .setup .a ≤ length (now out)) ⌝ }
     ensures { λ r. ⌜ Wrote (now (out .entry)) (now (out .exit)) at r (rowLines run u (run .setup .a)) ⌝ }
 {
     let a = run.setup.a;
     let quorum = records::quorum(run.setup.t, a) as u8;
-    let commitments = run.dealings.commitments;
-    let values = protocol::combined_values(commitments, run.qual(), run.setup.n, quorum, u);
-    let points = interpolation::committed_points(a, quorum);
+    let values = protocol::combined_values(powers, run.qual(), run.setup.n, quorum);
+    let basis = interpolation::committed_points(a, quorum).basis();
     let first = (u - 1) as usize * a as usize;
     let mut next = at;
     for k in 0..a {
-        let nonce = points
+        let nonce = basis
             .weights(interpolation::point(1, k + 1))
             .product(values);
         let signature = run.signatures[first + k as usize];
@@ -179,9 +179,12 @@ fn put_signatures(out: &mut [u8], at: usize, run: Run) -> usize
     ensures { λ r. ⌜ Wrote (now (out .entry)) (now (out .exit)) at r (signatureLines run (run .setup .a * batch (run .setup .n) (run .setup .t))) ⌝ }
 {
     let count = records::batch(run.setup.n, run.setup.t);
+    let mut powers = run.dealings.commitments;
     let mut next = at;
     for u in 0..count {
-        next = put_row(out, next, run, u + 1);
+        next = put_row(out, next, run, powers, u + 1);
+        let raised = protocol::raised(powers, run.setup.n);
+        powers = raised;
     }
     next
 }
@@ -219,8 +222,9 @@ fn put_page(log: &[u8], out: &mut [u8]) -> usize
         let reply = run.step(&rest[..length]);
         if reply.number != 0 {
             at = put_refusal(out, at, position, reply.number);
+        } else {
+            run = reply.run;
         }
-        run = reply.run;
         from += length;
         position += 1;
     }

@@ -1,5 +1,5 @@
 -- The public values of a committee as a run keeps them: flat arrays, party i's values from (i - 1) × 32 on.
-use Prim.Native.Nat.{ℕ, _+_, _*_, _-_}
+use Prim.Native.Nat.{ℕ, zero, suc, _+_, _*_, _-_, _/_, _^_}
 use mathlib.Core.Bool.{Bool, not, _&&_}
 use mathlib.Core.List.{List}
 use lib.ListN.{length, getD}
@@ -9,11 +9,10 @@ use Rattle.lists.specs.Stores.{stored, filled}
 use Rattle.sets.specs.Masks.{has, members, count}
 use Rattle.field.specs.declared.Scalar.{Scalar}
 use Rattle.field.specs.declared.Element.{Element}
-use Rattle.field.specs.Definitions.{scalar, element, product, raise}
+use Rattle.field.specs.Definitions.{scalar, element, product, powered}
 use Rattle.interpolation.specs.declared.Row.{Row}
 use Rattle.interpolation.specs.Definitions.{party, slot, committedPoint, scalarAt, elementAt}
 use Rattle.interpolation.specs.Rows.{listed}
-use Rattle.protocol.specs.Transcript.{coefficient}
 
 -- where party i's values begin
 unfoldable pub base : ℕ → ℕ
@@ -41,7 +40,16 @@ scalars m f = stored (filled 64 (scalar 0)) 0 m f
 -- the committed values combined for u: at v the product over a set of dealers of V_i(v)^(i^(u-1))
 unfoldable pub combinedValue : ℕ → (ℕ → Bool) → (ℕ → ℕ → Element) → ℕ → ℕ → Element
 combinedValue n qual commitment u v =
-    fold product (element 1) n (λ i. pick (qual (i + 1)) (raise (commitment (i + 1) v) (coefficient (i + 1) u)) (element 1))
+    fold product (element 1) n (λ i. pick (qual (i + 1)) (powered (commitment (i + 1) v) ((i + 1) ^ (u - 1))) (element 1))
+
+-- the committed values of n dealers, each to the power of its dealer's number
+unfoldable pub raised : ℕ → List Element → List Element
+raised n list = stored list 0 (n * 32) (λ p. powered (getD list p (element 0)) (p / 32 + 1))
+
+-- the committed values to the power of i^u, by u such steps
+unfoldable pub powersAt : ℕ → List Element → ℕ → List Element
+powersAt n list zero = list
+powersAt n list (suc u) = raised n (powersAt n list u)
 
 -- the points of the members of a set, and their numbers for u, members rising
 unfoldable pub memberPoints : ℕ → ℕ → Row

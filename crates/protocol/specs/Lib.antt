@@ -3,4 +3,5 @@ pub mod Arrays
 pub mod ArrayLaws
 pub mod Alike
 pub mod Combined
+pub mod Powers
 pub mod Signature

@@ -3,21 +3,20 @@
 use mathlib.Core.Path.{_≡_, refl, sym, ap, ap₂, subst, _∙_}
 use mathlib.Core.Logic.{_≢_}
 use mathlib.Core.Bool.{Bool, true, false}
-use Prim.Native.Nat.{ℕ, _+_, _*_, _-_, _≤_, _<_}
+use Prim.Native.Nat.{ℕ, _+_, _-_, _^_, _≤_, _<_}
 use native.Mathlib.Omega.{arith}
 use Rattle.field.specs.declared.Scalar.{Scalar}
 use Rattle.field.specs.declared.Element.{Element}
 use Rattle.field.specs.Definitions.{generator, IsElement, product, raise}
-use Rattle.field.specs.ScalarLaws.{power-range}
 use Rattle.field.specs.ElementLaws.{generator-element, raise-reduced}
 use Rattle.interpolation.specs.Definitions.{party, slot, committedPoint, scalarAt, elementAt}
 use Rattle.interpolation.specs.Laws.{committed-distinct, slots-distinct, parties-distinct, slot-committed, elementAt-point, scalarAt-reduced, raise-scalarAt}
-use Rattle.interpolation.specs.Polynomials.{polynomial-constant, polynomial-interpolated}
-use Rattle.interpolation.specs.Exponentials.{Exponential, exponential-wider, exponential-interpolated, exponential-product, exponential-raise, exponential-pick, exponential-fold, exact-elements}
+use Rattle.interpolation.specs.Polynomials.{polynomial-interpolated}
+use Rattle.interpolation.specs.Exponentials.{Exponential, exponential-wider, exponential-interpolated, exponential-product, exponential-raise, exponential-powered, exponential-pick, exponential-fold, exact-elements}
 use Rattle.interpolation.specs.Rows.{elementAt-cong}
 use Rattle.records.specs.Parameters.{quorum}
 use Rattle.records.specs.Laws.{Bounds, quorum-is}
-use Rattle.protocol.specs.Transcript.{Transcript, dealingAt, coefficient, keyAt, combinedAt, nonce, challengeAt, responseAt}
+use Rattle.protocol.specs.Transcript.{Transcript, dealingAt, keyAt, combinedAt, nonce, challengeAt, responseAt}
 
 -- what a run at stage 4 keeps: parameters within the bounds, a key and commitments of QUAL that are elements
 pub record Sound (w : Transcript) : Type 0 where
@@ -27,12 +26,12 @@ pub record Sound (w : Transcript) : Type 0 where
 
 module _ (w : Transcript) (u : ℕ) (s : Sound w) where
   combined-exponential : Exponential (quorum (w .t) (w .a)) (combinedAt w u)
-  unfolding combinedAt dealingAt coefficient
+  unfolding combinedAt dealingAt
   combined-exponential =
       exponential-fold (w .n) _ (λ i l. exponential-pick (w .qual (i + 1)) (λ e.
-      exponential-wider (omega arith)
-      (exponential-raise (exponential-interpolated (committedPoint (w .a)) (quorum (w .t) (w .a)) (w .commitment (i + 1)) (λ v k. s .commitments (i + 1) v (omega arith) (omega arith) e k))
-      (polynomial-constant (coefficient (i + 1) u) (power-range _ _)))))
+      exponential-powered
+      (exponential-interpolated (committedPoint (w .a)) (quorum (w .t) (w .a)) (w .commitment (i + 1)) (λ v k. s .commitments (i + 1) v (omega arith) (omega arith) e k))
+      ((i + 1) ^ (u - 1))))
 
   key-exponential : Exponential (w .t + w .a) (keyAt w)
   unfolding keyAt

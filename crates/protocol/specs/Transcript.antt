@@ -1,12 +1,12 @@
 -- What the public values of a committee come to (document 01, "Points and weights").
-use Prim.Native.Nat.{ℕ, _+_, _-_}
+use Prim.Native.Nat.{ℕ, _+_, _-_, _^_}
 use mathlib.Core.Bool.{Bool}
 use lib.Dec.{eqb}
 use Rattle.algebra.specs.Fold.{fold}
 use Rattle.lists.specs.Tests.{pick}
 use Rattle.field.specs.declared.Scalar.{Scalar}
 use Rattle.field.specs.declared.Element.{Element}
-use Rattle.field.specs.Definitions.{scalar, element, generator, power, product, raise}
+use Rattle.field.specs.Definitions.{scalar, element, generator, power, product, raise, powered}
 use Rattle.interpolation.specs.Definitions.{party, slot, committedPoint, scalarAt, elementAt}
 use Rattle.records.specs.Parameters.{quorum}
 
@@ -28,7 +28,7 @@ dealingAt t a values x = elementAt (committedPoint a) (quorum t a) values x
 unfoldable pub validShare : ℕ → ℕ → (ℕ → Element) → ℕ → Scalar → Bool
 validShare t a values j share = eqb (raise generator share .0) (dealingAt t a values (party j) .0)
 
--- i^(u-1), i being the dealer's number
+-- i^(u-1) as a scalar, i being the dealer's number
 unfoldable pub coefficient : ℕ → ℕ → Scalar
 coefficient i u = power (scalar i) (u - 1)
 
@@ -37,11 +37,11 @@ module _ (w : Transcript) where
   unfoldable pub keyAt : Scalar → Element
   keyAt x = elementAt (committedPoint (w .a)) (w .t + w .a) (λ v. w .key (v + 1 - w .a)) x
 
-  -- C_u(x): the product over QUAL of C_i(x)^(i^(u-1))
+  -- C_u(x): the product over QUAL of C_i(x)^(i^(u-1)), i being the dealer's number
   unfoldable pub combinedAt : ℕ → Scalar → Element
   combinedAt u x =
       fold product (element 1) (w .n)
-      (λ i. pick (w .qual (i + 1)) (raise (dealingAt (w .t) (w .a) (w .commitment (i + 1)) x) (coefficient (i + 1) u)) (element 1))
+      (λ i. pick (w .qual (i + 1)) (powered (dealingAt (w .t) (w .a) (w .commitment (i + 1)) x) ((i + 1) ^ (u - 1))) (element 1))
 
   -- R(u,k)
   unfoldable pub nonce : ℕ → ℕ → Element

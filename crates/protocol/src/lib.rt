@@ -7,7 +7,7 @@ ghost use Rattle.sets.specs.Masks.{has};
 ghost use Rattle.field.specs.Definitions.{scalar, element, generator, raise};
 ghost use Rattle.interpolation.specs.Rows.{productOf};
 ghost use Rattle.protocol.specs.Transcript.{coefficient};
-ghost use Rattle.protocol.specs.Arrays.{commitmentIn, challengeIn, elements, scalars, combinedValue, memberPoints, memberNumbers};
+ghost use Rattle.protocol.specs.Arrays.{commitmentIn, challengeIn, elements, scalars, combinedValue, raised, powersAt, memberPoints, memberNumbers};
 use field::Element;
 use field::Scalar;
 use interpolation::Row;
@@ -26,7 +26,7 @@ fn capped(count: usize) -> usize
     if count < 64 { count } else { 64 }
 }
 
-// i^(u-1), i being the dealer's number.
+// i^(u-1) as a scalar, i being the dealer's number.
 pub fn coefficient(i: u8, u: u8) -> Scalar
     ensures { λ r. ⌜ r ≡ coefficient i u ⌝ }
 {
@@ -42,29 +42,54 @@ pub fn share_fits(weights: Row, values: [Element; 64], share: Scalar) -> bool
     sent.0 == image.0
 }
 
-// Committed value number v of the dealers of a set, combined for u.
-fn combined_value(list: [Element; 1024], qual: u64, n: u8, u: u8, v: u8) -> Element
-    ensures { λ r. ⌜ r ≡ combinedValue n (has qual) (commitmentIn list) u v ⌝ }
+// The committed values of n dealers, each to the power of its dealer's number: from V^(i^(u-1)) to V^(i^u).
+pub fn raised(list: [Element; 1024], n: u8) -> [Element; 1024]
+    ensures { λ r. ⌜ r ≡ raised n list ⌝ }
+{
+    let count = if n < 32 { n as usize * 32 } else { 1024 };
+    let mut next = list;
+    for at in 0..count {
+        let i = (at / 32 + 1) as u32;
+        next[at] = list[at].pow(Scalar(i));
+    }
+    next
+}
+
+// The committed values to the power of i^(u-1), i being the dealer's number.
+pub fn powers_at(list: [Element; 1024], n: u8, u: u8) -> [Element; 1024]
+    ensures { λ r. ⌜ r ≡ powersAt n list (u - 1) ⌝ }
+{
+    let mut powers = list;
+    for step in 0..predecessor(u) {
+        let next = raised(powers, n);
+        powers = next;
+    }
+    powers
+}
+
+// Value number v of the dealers of a set, multiplied.
+fn combined_value(powers: [Element; 1024], qual: u64, n: u8, v: u8) -> Element
+    ensures { λ r. ⌜ r ≡ combinedValue n (has qual) (commitmentIn powers) 1 v ⌝ }
 {
     let mut product = Element::ONE;
     for i in 0..n {
         if sets::has(qual, i + 1) {
             let at = i as usize * 32 + v as usize;
-            let value = if at < 1024 { list[at] } else { Element(0) };
-            product = product.mul(value.pow(coefficient(i + 1, u)));
+            let value = if at < 1024 { powers[at] } else { Element(0) };
+            product = product.mul(value);
         }
     }
     product
 }
 
-// The committed values of the dealers of a set, combined for u.
-pub fn combined_values(list: [Element; 1024], qual: u64, n: u8, quorum: u8, u: u8) -> [Element; 64]
-    ensures { λ r. ⌜ r ≡ elements quorum (combinedValue n (has qual) (commitmentIn list) u) ⌝ }
+// The values of the dealers of a set, combined for the u whose powers these are.
+pub fn combined_values(powers: [Element; 1024], qual: u64, n: u8, quorum: u8) -> [Element; 64]
+    ensures { λ r. ⌜ r ≡ elements quorum (combinedValue n (has qual) (commitmentIn powers) 1) ⌝ }
 {
     let m = capped(quorum as usize);
     let mut values = [Element(0); 64];
     for v in 0..m {
-        values[v] = combined_value(list, qual, n, u, v as u8);
+        values[v] = combined_value(powers, qual, n, v as u8);
     }
     values
 }

@@ -2,7 +2,7 @@
 use mathlib.Core.Path.{_≡_, refl, sym, ap, ap₂, _∙_}
 use mathlib.Core.Bool.{Bool, true}
 use mathlib.Core.List.{List}
-use Prim.Native.Nat.{ℕ, _+_, _^_, _≤_, _<_}
+use Prim.Native.Nat.{ℕ, _+_, _-_, _^_, _≤_, _<_}
 use native.Mathlib.Omega.{arith}
 use lib.Dec.{eqb}
 use Rattle.algebra.specs.Fold.{fold-cong}
@@ -12,7 +12,7 @@ use Rattle.sets.specs.MaskLaws.{has-minus}
 use Rattle.sets.specs.MemberLaws.{count-le}
 use Rattle.field.specs.declared.Scalar.{Scalar}
 use Rattle.field.specs.declared.Element.{Element}
-use Rattle.field.specs.Definitions.{scalar, element, generator, product, raise}
+use Rattle.field.specs.Definitions.{scalar, element, generator, product, raise, powered}
 use Rattle.interpolation.specs.declared.Row.{Row}
 use Rattle.interpolation.specs.Definitions.{party, slot, committedPoint}
 use Rattle.interpolation.specs.Rows.{listed, weightsOf, sumOf, productOf, elementAt-cong}
@@ -20,7 +20,7 @@ use Rattle.interpolation.specs.Turns.{first, first-weights}
 use Rattle.records.specs.Parameters.{quorum, batch}
 use Rattle.records.specs.Bytes.{word, sender}
 use Rattle.records.specs.Laws.{quorum-max, key-max}
-use Rattle.protocol.specs.Transcript.{coefficient, keyAt, combinedAt, challengeAt, responseAt, passes}
+use Rattle.protocol.specs.Transcript.{keyAt, combinedAt, challengeAt, responseAt, passes}
 use Rattle.protocol.specs.Arrays.{commitmentIn, challengeIn, elements, scalars, combinedValue, memberPoints, memberNumbers}
 use Rattle.protocol.specs.ArrayLaws.{values-interpolated, challenges-interpolated, members-interpolated}
 use Rattle.protocol.specs.Combined.{combined-values}
@@ -57,7 +57,7 @@ combined-same : (n : ℕ) (f g : ℕ → Bool) (commitment : ℕ → ℕ → Ele
     → combinedValue n f commitment u v ≡ combinedValue n g commitment u v
 unfolding combinedValue
 combined-same n f g commitment u v h =
-    fold-cong product (element 1) n (λ i l. ap (λ (b : Bool). pick b (raise (commitment (i + 1) v) (coefficient (i + 1) u)) (element 1)) (h (i + 1)))
+    fold-cong product (element 1) n (λ i l. ap (λ (b : Bool). pick b (powered (commitment (i + 1) v) ((i + 1) ^ (u - 1))) (element 1)) (h (i + 1)))
 
 module _ (r : Run) (x : Scalar) (h : wellFormed r ≡ true) where
   combined-is : (u : ℕ)

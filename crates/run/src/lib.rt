@@ -11,12 +11,14 @@ ghost use Rattle.records.specs.Parameters.{inBounds, batch};
 ghost use Rattle.records.specs.Bytes.{word, sender};
 ghost use Rattle.records.specs.Refusals.{setupRefusal};
 ghost use Rattle.protocol.specs.Transcript.{combinedAt, passes};
-ghost use Rattle.protocol.specs.Arrays.{elements};
+ghost use Rattle.interpolation.specs.Rows.{basisOf};
+ghost use Rattle.protocol.specs.Arrays.{elements, memberPoints};
 ghost use Rattle.run.specs.Runs.{fresh, begun, wellFormed, stageOf, transcriptOf, qualOf, setsOf, keyOf, phiOf, kept};
 ghost use Rattle.run.specs.Steps.{refused, answered, setupOf, afterSetup, dealingNumber, wrongShares, withDealing, afterDealing, mayBlame, complaintNumber, withComplaint, complaintStage, afterComplaint, challengesNumber, afterChallenges, responseNumber, withResponse, withRow, finished, afterResponse, stepOf};
 ghost use Rattle.run.specs.Answers.{inBatch, nonceOf, signatureOf};
 use field::Element;
 use field::Scalar;
+use interpolation::Basis;
 use interpolation::Row;
 
 // The accepted setup: the parameters, and S, S_1 to S_t.
@@ -160,12 +162,12 @@ fn wrong_shares(setup: Setup, bytes: &[u8]) -> u64
 {
     let quorum = records::quorum(setup.t, setup.a);
     let values = load_values(bytes, quorum);
-    let points = interpolation::committed_points(setup.a, quorum as u8);
+    let basis = interpolation::committed_points(setup.a, quorum as u8).basis();
     let from = records::shares_from(setup.t, setup.a);
     let mut wrong: u64 = 0;
     for i in 0..setup.n {
         let j = i + 1;
-        let weights = points.weights(interpolation::point(j, 0));
+        let weights = basis.weights(interpolation::point(j, 0));
         let share = Scalar(records::word(bytes, from, i as u16));
         if !protocol::share_fits(weights, values, share) {
             wrong = sets::insert(wrong, j);
@@ -517,7 +519,6 @@ impl Run {
         ensures { λ r. ⌜ r ≡ allTo (batch (self .setup .n) (self .setup .t)) (λ x. passes (transcriptOf self) (x + 1) (sender (now (bytes .entry))) (scalar (word (now (bytes .entry)) 4 x))) ⌝ }
     {
         let setup = self.setup;
-        let list = self.dealings.commitments;
         let challenges = self.challenges;
         let qual = self.qual();
         let quorum = records::quorum(setup.t, setup.a) as u8;
@@ -525,9 +526,10 @@ impl Run {
         let key = setup.key_at(x);
         let at_slots = interpolation::slot_points(setup.a).weights(x);
         let at_points = interpolation::committed_points(setup.a, quorum).weights(x);
+        let mut powers = self.dealings.commitments;
         let mut passed = true;
         'row: for u in 0..records::batch(setup.n, setup.t) {
-            let values = protocol::combined_values(list, qual, setup.n, quorum, u + 1);
+            let values = protocol::combined_values(powers, qual, setup.n, quorum);
             let mut image = Element::ONE;
             for v in 0..quorum {
                 let value = values[v as usize];
@@ -541,6 +543,8 @@ impl Run {
                 passed = false;
                 break 'row;
             }
+            let next = protocol::raised(powers, setup.n);
+            powers = next;
         }
         passed
     }
@@ -567,16 +571,17 @@ impl Run {
         0
     }
 
-    // φ(u,k) from the accepted response rows.
-    fn interpolated(self, u: u8, k: u8) -> Scalar
-        requires { ⌜ wellFormed self ≡ true ⌝ }
+    // φ(u,k) from the accepted response rows, by the basis of their senders.
+    fn interpolated(self, basis: Basis, u: u8, k: u8) -> Scalar
+        requires { ⌜ basis ≡ basisOf (memberPoints (self .setup .n) (self .responses .responders)) ⌝ }
         ensures { λ r. ⌜ r ≡ phiOf self u k ⌝ }
     {
         let n = self.setup.n;
         let set = self.responses.responders;
         let numbers = self.responses.numbers;
-        let weights = protocol::member_points(n, set).weights(interpolation::point(1, k));
-        weights.sum(protocol::member_numbers(n, set, numbers, u))
+        basis
+            .weights(interpolation::point(1, k))
+            .sum(protocol::member_numbers(n, set, numbers, u))
     }
 
     // Done: every φ is worked out.
@@ -585,12 +590,13 @@ impl Run {
         ensures { λ r. ⌜ r ≡ finished self ⌝ }
     {
         let a = self.setup.a;
+        let basis = protocol::member_points(self.setup.n, self.responses.responders).basis();
         let mut signatures = self.signatures;
         let count = a as u16 * records::batch(self.setup.n, self.setup.t) as u16;
         for x in 0..count {
             let u = (x / a as u16 + 1) as u8;
             let k = (x % a as u16 + 1) as u8;
-            let phi = self.interpolated(u, k);
+            let phi = self.interpolated(basis, u, k);
             signatures[x as usize] = phi;
         }
         let mut next = self;
@@ -707,9 +713,11 @@ impl Run {
         requires { ⌜ wellFormed self ≡ true ⌝ }
         ensures { λ r. ⌜ r ≡ combinedAt (transcriptOf self) u x ⌝ }
     {
+        let n = self.setup.n;
         let list = self.dealings.commitments;
         let quorum = records::quorum(self.setup.t, self.setup.a) as u8;
-        let values = protocol::combined_values(list, self.qual(), self.setup.n, quorum, u);
+        let powers = protocol::powers_at(list, n, u);
+        let values = protocol::combined_values(powers, self.qual(), n, quorum);
         interpolation::committed_points(self.setup.a, quorum)
             .weights(x)
             .product(values)

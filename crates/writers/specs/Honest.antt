@@ -2,7 +2,7 @@
 use mathlib.Core.Path.{_≡_, refl, ap, ap₂, _∙_}
 use mathlib.Core.Bool.{Bool, true, false}
 use mathlib.Core.List.{List}
-use Prim.Native.Nat.{ℕ, _+_, _-_, _≤_, _<_}
+use Prim.Native.Nat.{ℕ, _+_, _-_, _^_, _≤_, _<_}
 use native.Mathlib.Omega.{arith}
 use borrow.Author.Tests.{eqb-true, eq-eqb}
 use lib.ListN.{getD}
@@ -10,9 +10,9 @@ use Rattle.algebra.specs.Fold.{fold-cong, fold-hom}
 use Rattle.lists.specs.Tests.{pick}
 use Rattle.field.specs.declared.Scalar.{Scalar}
 use Rattle.field.specs.declared.Element.{Element}
-use Rattle.field.specs.Definitions.{scalar, element, generator, plus, times, product, raise}
+use Rattle.field.specs.Definitions.{scalar, element, generator, plus, times, product, raise, powered}
 use Rattle.field.specs.ScalarLaws.{times-comm}
-use Rattle.field.specs.ElementLaws.{generator-element, raise-zero, raise-plus, raise-times}
+use Rattle.field.specs.ElementLaws.{generator-element, raise-element, raise-zero, raise-power, raise-plus, raise-times}
 use Rattle.interpolation.specs.Definitions.{party, committedPoint}
 use Rattle.interpolation.specs.Laws.{raise-scalarAt}
 use Rattle.records.specs.Parameters.{quorum}
@@ -40,7 +40,7 @@ module _ (w : Transcript) (j : ℕ) (shares : List ℕ) where
 
   -- 4^H_u(j) = C_u(j)
   combined-is : RightShares → (u : ℕ) → raise generator (combinedShare (w .n) (w .qual) shares u) ≡ combinedAt w u (party j)
-  unfolding combinedShare combinedAt
+  unfolding combinedShare combinedAt coefficient
   combined-is right u =
       fold-hom plus (scalar 0) product (element 1) (raise generator) (raise-zero generator) (raise-plus generator generator-element) (w .n) (λ i. part i (w .qual (i + 1)))
       ∙ fold-cong product (element 1) (w .n) (λ i l. go i l (w .qual (i + 1)) (λ e. e))
@@ -49,11 +49,12 @@ module _ (w : Transcript) (j : ℕ) (shares : List ℕ) where
       part i b = pick b (times (coefficient (i + 1) u) (scalar (getD shares i 0))) (scalar 0)
 
       go : (i : ℕ) → i < w .n → (b : Bool) → (b ≡ true → w .qual (i + 1) ≡ true)
-          → raise generator (part i b) ≡ pick b (raise (dealingAt (w .t) (w .a) (w .commitment (i + 1)) (party j)) (coefficient (i + 1) u)) (element 1)
+          → raise generator (part i b) ≡ pick b (powered (dealingAt (w .t) (w .a) (w .commitment (i + 1)) (party j)) ((i + 1) ^ (u - 1))) (element 1)
       go i l true e =
           let place : i + 1 - 1 ≡ i = omega arith in
           power-times (coefficient (i + 1) u) (scalar (getD shares i 0))
-          ∙ ap (λ (v : Element). raise v (coefficient (i + 1) u)) (valid-is (w .t) (w .a) (w .commitment (i + 1)) j (scalar (getD shares i 0)) (rw place at (right (i + 1) (omega arith) (omega arith) (e refl))))
+          ∙ raise-power (raise generator (scalar (getD shares i 0))) (raise-element generator _ generator-element) (i + 1) (u - 1)
+          ∙ ap (λ (v : Element). powered v ((i + 1) ^ (u - 1))) (valid-is (w .t) (w .a) (w .commitment (i + 1)) j (scalar (getD shares i 0)) (rw place at (right (i + 1) (omega arith) (omega arith) (e refl))))
       go i l false e = raise-zero generator
 
   -- 4^(H_u(j) + E_u(j) × F(j)) = C_u(j) × S_j^E_u(j)

@@ -1,11 +1,11 @@
--- `power_of` meets its contract. The loop keeps product × square ^ left modulo m. Assumes nothing.
+-- `power_of` meets its contract. The loop keeps product × square ^ left modulo m, until none or one is left. Assumes nothing.
 use borrow.Author.Needs.{needs}
 use native.Mathlib.Omega.{arith}
-use native.Mathlib.Nat.{pow-zero, mod-lt, mul-one, one-mul}
+use native.Mathlib.Nat.{pow-zero, mod-lt, one-mul}
 use mathlib.Core.Logic.{⊎-elim}
 use mathlib.Core.Path.{_≡_, _∙_, ap, sym}
 use Prim.Native.Nat.{ℕ, _*_, _%_, _^_, _<_}
-use Rattle.field.specs.Powers.{pow-mod, power-is, even-turn, odd-turn}
+use Rattle.field.specs.Powers.{pow-one, pow-mod, power-is, even-turn, odd-turn}
 use Rattle.field.proofs.Fits.{product-fits}
 use Rattle.field.proofs.power_of.Statement.{statement}
 use Rattle.field.proofs.power_of.Tie as tie
@@ -52,22 +52,33 @@ loop-again c =
     (rw here (l .inv .0), mod-lt _ (search needs), rw here (even-turn m (l .product) (l .square) (l .left) (w .0 .left) ∙ l .inv .2)))
     (c .if1 .came)
 
+-- what is left is none or one: the last factor
+last-is : (c : tie.Joined2 Inv-loop μ-loop)
+    → let l = c .before .before .loop in (c .if2 .last < c .before .before .before .args .modulus) × (c .if2 .last ≡ l .square ^ l .left)
+last-is c =
+    let l = c .before .before .loop in
+    ⊎-elim
+    (λ w. (rw (w .1) (l .inv .1), w .1 ∙ sym (ap (λ (k : ℕ). l .square ^ k) (w .0 .taken) ∙ pow-one (l .square))))
+    (λ w. let none : l .left ≡ 0 = omega arith in (rw (w .1) (omega arith), w .1 ∙ sym (ap (λ (k : ℕ). l .square ^ k) none ∙ pow-zero (l .square))))
+    (c .if2 .came)
+
+mul-result : tie.Need-mul-result Inv-loop μ-loop
+mul-result c = record { fits = product-fits (omega arith) (omega (arith, last-is (c .before))) }
+
 rem-result : tie.Need-rem-result Inv-loop μ-loop
 rem-result c = search needs
 
 cast-result : tie.Need-cast-result Inv-loop μ-loop
 cast-result c =
-    let p : 0 < c .before .before .args .modulus = omega arith in
-    omega (arith, mod-lt (c .before .loop .product) p)
+    let p : 0 < c .before .before .before .before .args .modulus = omega arith in
+    omega (arith, mod-lt (c .before .before .before .loop .product * c .before .if2 .last) p)
 
 returns : tie.Need-returns Inv-loop μ-loop
 returns c =
-    let a = c .before .before .args in
-    let l = c .before .loop in
+    let a = c .before .before .before .before .args in
+    let l = c .before .before .before .loop in
     let m = a .modulus in
-    let none : l .left ≡ 0 = omega arith in
-    ap (λ (x : ℕ). x % m) (sym (ap (λ (k : ℕ). l .product * l .square ^ k) none ∙ ap (λ (x : ℕ). l .product * x) (pow-zero (l .square)) ∙ mul-one (l .product)))
-    ∙ l .inv .2 ∙ pow-mod (a .base) (a .exponent) m ∙ sym (power-is m (a .base) (a .exponent))
+    ap (λ (x : ℕ). l .product * x % m) (last-is (c .before) .1) ∙ l .inv .2 ∙ pow-mod (a .base) (a .exponent) m ∙ sym (power-is m (a .base) (a .exponent))
 
 pub power-of-spec : {M : Type 1} → statement M
 power-of-spec =
@@ -83,6 +94,7 @@ power-of-spec =
     rem-square-2
     loop-less
     loop-again
+    mul-result
     rem-result
     cast-result
     returns)

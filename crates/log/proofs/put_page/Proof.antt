@@ -8,7 +8,9 @@ use borrow.Author.Needs.{needs}
 use borrow.Author.Tests.{eq-eqb, ne-eqb}
 use lib.ListN.{length, take, drop, length-drop}
 use lib.Seq.{take-all, length-take-le}
+use Rattle.run.specs.declared.Reply.{Reply}
 use Rattle.run.specs.Steps.{stepOf}
+use Rattle.run.specs.Refused.{refusal-keeps}
 use Rattle.log.specs.Texts.{Wrote, wrote-none, wrote-append}
 use Rattle.log.specs.Turns.{nextLength, nextRecord, lineOf, next-pos, next-max}
 use Rattle.log.proofs.Reading.{Reading, reading-start, reading-place, reading-length, reading-next, reading-lines, reading-run}
@@ -89,16 +91,16 @@ put-refusal-requires c κs =
 
 add-from : tie.Need-add-from Inv-loop μ-loop
 add-from c =
-    let n = c .before .before .before .before .before in
+    let n = c .before .before .before .before in
     omega (arith, passed n .1, n .before .before .before .before .before .before .before .pre .0)
 
 add-position : tie.Need-add-position Inv-loop μ-loop
 add-position c =
-    let l = c .before .before .before .before .before .before .before .before in
+    let l = c .before .before .before .before .before .before .before in
     omega (arith, l .loop .inv .counted, l .loop .inv .within, l .before .before .before .before .pre .0)
 
 loop-less : tie.Need-loop-less Inv-loop μ-loop
-loop-less c = omega (arith, passed (c .before .before .before .before .before))
+loop-less c = omega (arith, passed (c .before .before .before .before))
 
 -- where the two ways meet the line is stored, if there is one
 stored : (c : tie.Joined1 Inv-loop μ-loop) →
@@ -107,15 +109,24 @@ stored : (c : tie.Joined1 Inv-loop μ-loop) →
     Wrote (l .loop .out) (c .if1 .out) (l .loop .at) (c .if1 .at) (lineOf (l .loop .position) (st .step .result .number))
 unfolding lineOf
 stored c =
-    ⊎-elim (λ w. rw (w .5, w .6, ne-eqb _ 0 (w .0 .taken)) (w .2 .ensures)) (λ w. rw (w .1, w .2, eq-eqb _ 0 (w .0 .left)) (wrote-none _ _)) (c .if1 .came)
+    ⊎-elim (λ w. rw (w .5, w .7, ne-eqb _ 0 (w .0 .taken)) (w .2 .ensures)) (λ w. rw (w .2, w .4, eq-eqb _ 0 (w .0 .left)) (wrote-none _ _)) (c .if1 .came)
+
+-- and the run is the reply's: a refusal left it as it was
+same-run : (c : tie.Joined1 Inv-loop μ-loop) → c .if1 .run ≡ c .before .before .step .result .run
+same-run c =
+    let st = c .before .before in
+    let reply = replied st in
+    ⊎-elim
+    (λ w. w .6 ∙ sym (ap (λ (z : Reply). z .run) reply ∙ refusal-keeps _ _ (λ e. w .0 .taken (ap (λ (z : Reply). z .number) reply ∙ e))))
+    (λ w. w .3)
+    (c .if1 .came)
 
 loop-again : tie.Need-loop-again Inv-loop μ-loop
 loop-again c =
-    let j = c .before in
-    let st = j .before .before in
+    let st = c .before .before in
     let n = st .before .before in
     let i = n .before .before in
-    rw (replied st, measured n) (reading-next (i .before .loop .inv) (i .loop-test .taken) (rw (replied st) at (stored j)))
+    rw (same-run c, replied st, measured n) (reading-next (i .before .loop .inv) (i .loop-test .taken) (rw (replied st) at (stored c)))
 
 put-closing-requires : tie.Need-put-closing-requires Inv-loop μ-loop
 put-closing-requires c κs =

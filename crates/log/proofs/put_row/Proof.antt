@@ -1,11 +1,13 @@
 -- `put_row` meets its contract. The loop has stored the lines of the slots that it passed. Assumes nothing.
-use mathlib.Core.Path.{_≡_, sym, _∙_}
+use mathlib.Core.Path.{_≡_, refl, sym, _∙_}
 use Prim.Native.Nat.{_+_, _*_, _-_, _≤_, _<_}
 use native.Mathlib.Omega.{arith}
 use borrow.Author.Needs.{needs}
 use lib.ListN.{length}
 use Rattle.records.specs.Laws.{Bounds, quorum-max}
+use Rattle.interpolation.specs.Bases.{weights-by}
 use Rattle.protocol.specs.Transcript.{nonce}
+use Rattle.protocol.specs.Powers.{combined-powers}
 use Rattle.run.specs.Runs.{transcriptOf}
 use Rattle.run.specs.RunLaws.{formed-of}
 use Rattle.log.specs.Texts.{Wrote, wrote-none, wrote-length, wrote-append}
@@ -14,10 +16,10 @@ use Rattle.log.proofs.put_row.Statement.{statement}
 use Rattle.log.proofs.put_row.Tie as tie
 
 abbrev Inv-loop : tie.InvT-loop
-Inv-loop out₀ at u run a quorum values points first next₀ k₀ out next k = (k ≤ a) × Wrote out₀ out next₀ next (rowLines run u k)
+Inv-loop out₀ at u run a quorum values basis first next₀ k₀ out next k = (k ≤ a) × Wrote out₀ out next₀ next (rowLines run u k)
 
 abbrev μ-loop : tie.MeasureT-loop
-μ-loop out₀ at u run a quorum values points first next₀ k₀ out next k = a - k
+μ-loop out₀ at u run a quorum values basis first next₀ k₀ out next k = a - k
 
 bounds : (s : tie.Start Inv-loop μ-loop) → Bounds (s .args .t3 .setup .n) (s .args .t3 .setup .t) (s .args .t3 .setup .a)
 bounds s = formed-of (s .args .t3) (s .pre .0) .bounds
@@ -36,6 +38,9 @@ combined-values-requires c κs = search needs
 
 committed-points-requires : tie.Need-committed-points-requires Inv-loop μ-loop
 committed-points-requires c κs = search needs
+
+basis-requires : tie.Need-basis-requires Inv-loop μ-loop
+basis-requires c κs = search needs
 
 sub-first : tie.Need-sub-first Inv-loop μ-loop
 sub-first c = search needs
@@ -56,8 +61,14 @@ loop-holds : tie.Need-loop-holds Inv-loop μ-loop
 unfolding rowLines
 loop-holds c = (omega arith, wrote-none _ _)
 
+-- the slots are few
+slots : (c : tie.In-loop Inv-loop μ-loop) → c .before .loop .k < 255
+slots c =
+    let b = bounds (c .before .before .before .before .before .before .before .before) in
+    omega (arith, b .t-pos, b .n-max, b .enough, c .loop-test .taken)
+
 add-point : tie.Need-add-point Inv-loop μ-loop
-add-point c = search needs
+add-point c = omega (arith, slots c)
 
 point-requires : tie.Need-point-requires Inv-loop μ-loop
 point-requires c κs = search needs
@@ -88,12 +99,6 @@ mul-signature c = omega (arith, placed (c .before .before .before))
 element-copy-out-signature : tie.Need-element-copy-out-signature Inv-loop μ-loop
 element-copy-out-signature c = placed (c .before .before .before)
 
--- the slots are few
-slots : (c : tie.In-loop Inv-loop μ-loop) → c .before .loop .k < 255
-slots c =
-    let b = bounds (c .before .before .before .before .before .before .before .before) in
-    omega (arith, b .t-pos, b .n-max, b .enough, c .loop-test .taken)
-
 add-put-signature : tie.Need-add-put-signature Inv-loop μ-loop
 add-put-signature c = omega (arith, slots (c .before .before .before .before .before))
 
@@ -109,7 +114,7 @@ put-signature-requires : tie.Need-put-signature-requires Inv-loop μ-loop
 put-signature-requires c κs =
     let i = c .before .before .before .before .before in
     let s = i .before .before .before .before .before .before .before .before in
-    omega (arith, room (i .before), i .loop-test .taken, s .pre .3)
+    omega (arith, room (i .before), i .loop-test .taken, s .pre .4)
 
 add-k : tie.Need-add-k Inv-loop μ-loop
 add-k c = omega (arith, slots (c .before .before .before .before .before .before .before .before))
@@ -125,13 +130,16 @@ found : (c : tie.After-product Inv-loop μ-loop) →
 found c =
     let w = c .before in
     let l = w .before .before .before in
-    let p = l .before in
-    let v = p .before in
+    let b = l .before in
+    let v = b .before .before in
     let q = v .before in
-    let s = q .before .before .before .before in
+    let s = q .before .before .before in
+    let r = s .args .t3 in
+    let few = quorum-max (bounds s) in
+    let values = combined-powers (r .setup .n) _ (r .dealings .commitments) (s .args .u) _ (omega (arith, few, q .before .quorum .ensures)) refl (s .pre .3) (v .combined-values .ensures) in
     c .product .ensures
-    ∙ rw (w .weights .ensures, w .before .point .ensures, p .committed-points .ensures, v .combined-values .ensures, q .qual .ensures, q .before .before .quorum .ensures)
-    (nonce-is (s .args .t3) (s .args .u) (l .loop .k + 1) (bounds s))
+    ∙ rw (w .weights .ensures, w .before .point .ensures, b .basis .ensures, weights-by, b .before .committed-points .ensures, values, q .qual .ensures, q .before .quorum .ensures)
+    (nonce-is r (s .args .u) (l .loop .k + 1) (bounds s))
 
 loop-again : tie.Need-loop-again Inv-loop μ-loop
 loop-again c =
@@ -164,6 +172,7 @@ put-row-spec =
     qual-requires
     combined-values-requires
     committed-points-requires
+    basis-requires
     sub-first
     cast-first
     cast-first-2

@@ -6,20 +6,20 @@ use mathlib.Core.Path.{_≡_, sym, ap, ap₂, _∙_}
 use Prim.Native.Nat.{ℕ, _+_, _-_, _*_, _≤_}
 use lib.ListN.{length, getD, List·getD-eq-default}
 use Rattle.sets.specs.Masks.{has}
-use Rattle.field.specs.Definitions.{element, product, raise}
+use Rattle.field.specs.Definitions.{element, product}
 use Rattle.protocol.specs.Arrays.{base, commitmentIn, combinedValue}
 use Rattle.protocol.proofs.Loops.{combined-none, combined-skip, combined-take}
 use Rattle.protocol.proofs.combined_value.Statement.{statement}
 use Rattle.protocol.proofs.combined_value.Tie as tie
 
 abbrev Inv-loop : tie.InvT-loop
-Inv-loop qual n u v list product₀ i₀ product i = (i ≤ n) × (product ≡ combinedValue i (has qual) (commitmentIn list) u v)
+Inv-loop qual n v powers product₀ i₀ product i = (i ≤ n) × (product ≡ combinedValue i (has qual) (commitmentIn powers) 1 v)
 
 abbrev μ-loop : tie.MeasureT-loop
-μ-loop qual n u v list product₀ i₀ product i = n - i
+μ-loop qual n v powers product₀ i₀ product i = n - i
 
 loop-holds : tie.Need-loop-holds Inv-loop μ-loop
-loop-holds c = (omega arith, combined-none _ _ _ _)
+loop-holds c = (omega arith, combined-none _ _ _)
 
 add-has : tie.Need-add-has Inv-loop μ-loop
 add-has c = search needs
@@ -41,15 +41,6 @@ mul-value c = search needs
 
 array-copy-out-value : tie.Need-array-copy-out-value Inv-loop μ-loop
 array-copy-out-value c = search needs
-
-add-coefficient : tie.Need-add-coefficient Inv-loop μ-loop
-add-coefficient c = search needs
-
-coefficient-requires : tie.Need-coefficient-requires Inv-loop μ-loop
-coefficient-requires c κs = search needs
-
-pow-requires : tie.Need-pow-requires Inv-loop μ-loop
-pow-requires c κs = search needs
 
 mul-requires : tie.Need-mul-requires Inv-loop μ-loop
 mul-requires c κs = search needs
@@ -82,10 +73,10 @@ loop-again c =
       omega arith,
       ⊎-elim
           (λ w.
-          w .5 ∙ w .4 .ensures
-          ∙ ap₂ product (l .inv .1) (w .3 .ensures ∙ ap₂ raise (value (record { before = record { before = c .before; if1 = w .0 }; if2 = w .1 })) (w .2 .ensures))
-          ∙ sym (combined-take (has (a .qual)) (commitmentIn (a .t1)) (a .u) (a .v) (l .i) (sym (c .before .has .ensures) ∙ w .0 .taken)))
-          (λ w. w .1 ∙ l .inv .1 ∙ sym (combined-skip (has (a .qual)) (commitmentIn (a .t1)) (a .u) (a .v) (l .i) (sym (c .before .has .ensures) ∙ w .0 .left)))
+          w .3 ∙ w .2 .ensures
+          ∙ ap₂ product (l .inv .1) (value (record { before = record { before = c .before; if1 = w .0 }; if2 = w .1 }))
+          ∙ sym (combined-take (has (a .qual)) (commitmentIn (a .t1)) (a .v) (l .i) (sym (c .before .has .ensures) ∙ w .0 .taken)))
+          (λ w. w .1 ∙ l .inv .1 ∙ sym (combined-skip (has (a .qual)) (commitmentIn (a .t1)) (a .v) (l .i) (sym (c .before .has .ensures) ∙ w .0 .left)))
           (c .if1 .came),
     )
 
@@ -94,7 +85,7 @@ returns c =
     let s = c .before .before in
     let l = c .before .loop in
     let end : l .i ≡ s .args .n = omega arith in
-    l .inv .1 ∙ ap (λ (k : ℕ). combinedValue k (has (s .args .qual)) (commitmentIn (s .args .t1)) (s .args .u) (s .args .v)) end
+    l .inv .1 ∙ ap (λ (k : ℕ). combinedValue k (has (s .args .qual)) (commitmentIn (s .args .t1)) 1 (s .args .v)) end
 
 pub combined-value-spec : {M : Type 1} → statement M
 combined-value-spec =
@@ -110,9 +101,6 @@ combined-value-spec =
     add-at
     mul-value
     array-copy-out-value
-    add-coefficient
-    coefficient-requires
-    pow-requires
     mul-requires
     add-i
     loop-less

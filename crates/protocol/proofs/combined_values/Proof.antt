@@ -13,10 +13,10 @@ use Rattle.protocol.proofs.combined_values.Statement.{statement}
 use Rattle.protocol.proofs.combined_values.Tie as tie
 
 abbrev Inv-loop : tie.InvT-loop
-Inv-loop list qual n quorum u m values₀ v₀ values v = (v ≤ m) × (m ≡ min quorum 64) × (values ≡ front (element 0) v (combinedValue n (has qual) (commitmentIn list) u))
+Inv-loop powers qual n quorum m values₀ v₀ values v = (v ≤ m) × (m ≡ min quorum 64) × (values ≡ front (element 0) v (combinedValue n (has qual) (commitmentIn powers) 1))
 
 abbrev μ-loop : tie.MeasureT-loop
-μ-loop list qual n quorum u m values₀ v₀ values v = m - v
+μ-loop powers qual n quorum m values₀ v₀ values v = m - v
 
 capped-requires : tie.Need-capped-requires Inv-loop μ-loop
 capped-requires c κs = search needs
@@ -46,7 +46,7 @@ loop-again : tie.Need-loop-again Inv-loop μ-loop
 loop-again c =
     let s = c .before .before .before .before in
     let l = c .before .before .loop in
-    let f : ℕ → Element = combinedValue (s .args .n) (has (s .args .qual)) (commitmentIn (s .args .list)) (s .args .u) in
+    let f : ℕ → Element = combinedValue (s .args .n) (has (s .args .qual)) (commitmentIn (s .args .powers)) 1 in
     (omega arith, l .inv .1, front-next (element 0) f (l .v) (l .inv .2) (c .combined-value .ensures))
 
 returns : tie.Need-returns Inv-loop μ-loop
@@ -54,7 +54,7 @@ unfolding elements
 returns c =
     let s = c .before .before .before in
     let l = c .before .loop in
-    let f : ℕ → Element = combinedValue (s .args .n) (has (s .args .qual)) (commitmentIn (s .args .list)) (s .args .u) in
+    let f : ℕ → Element = combinedValue (s .args .n) (has (s .args .qual)) (commitmentIn (s .args .powers)) 1 in
     l .inv .2 ∙ front-capped (element 0) f (s .args .quorum) (omega arith)
 
 pub combined-values-spec : {M : Type 1} → statement M

@@ -5,17 +5,17 @@ use mathlib.Core.Logic.{⊎-elim}
 use mathlib.Core.Path.{_≡_, refl, ap, sym, _∙_}
 use Prim.Native.Nat.{ℕ, _+_, _-_, _≤_}
 use Rattle.sets.specs.Masks.{maskOf, insert}
-use Rattle.interpolation.specs.Rows.{weightsOf}
+use Rattle.interpolation.specs.Rows.{weightsBy}
 use Rattle.records.specs.Laws.{bounds-of, quorum-max}
 use Rattle.run.proofs.Shares.{unfit, share-next, wrong-shares}
 use Rattle.run.proofs.wrong_shares.Statement.{statement}
 use Rattle.run.proofs.wrong_shares.Tie as tie
 
 abbrev Inv-loop : tie.InvT-loop
-Inv-loop bytes quorum values points from wrong₀ i₀ i-end wrong i = (i ≤ i-end) × (i-end ≤ 32) × (wrong ≡ maskOf i (unfit points values bytes from))
+Inv-loop bytes quorum values basis from wrong₀ i₀ i-end wrong i = (i ≤ i-end) × (i-end ≤ 32) × (wrong ≡ maskOf i (unfit basis values bytes from))
 
 abbrev μ-loop : tie.MeasureT-loop
-μ-loop bytes quorum values points from wrong₀ i₀ i-end wrong i = i-end - i
+μ-loop bytes quorum values basis from wrong₀ i₀ i-end wrong i = i-end - i
 
 quorum-requires : tie.Need-quorum-requires Inv-loop μ-loop
 quorum-requires c κs = search needs
@@ -31,13 +31,16 @@ cast-committed-points c =
 committed-points-requires : tie.Need-committed-points-requires Inv-loop μ-loop
 committed-points-requires c κs = search needs
 
+basis-requires : tie.Need-basis-requires Inv-loop μ-loop
+basis-requires c κs = search needs
+
 shares-from-requires : tie.Need-shares-from-requires Inv-loop μ-loop
 shares-from-requires c κs = search needs
 
 loop-holds : tie.Need-loop-holds Inv-loop μ-loop
 unfolding maskOf
 loop-holds c =
-    let s = c .before .before .before .before .before in
+    let s = c .before .before .before .before .before .before in
     (omega arith, bounds-of (s .args .setup .n) (s .args .setup .t) (s .args .setup .a) (s .pre) .n-max, refl)
 
 add-j : tie.Need-add-j Inv-loop μ-loop
@@ -73,8 +76,8 @@ loop-again c =
     let l = weights .before .before .before .loop in
     let s = weights .before .before .before .before in
     let next =
-    share-next (s .before .committed-points .result) (s .before .before .load-values .result) (s .before .before .before .before .before .args .bytes .now) (s .shares-from .result) (l .i)
-    (c .before .before .word .ensures) (weights .weights .ensures ∙ ap (weightsOf (s .before .committed-points .result)) (weights .before .point .ensures)) (c .before .share-fits .ensures) (omega arith) in (
+    share-next (s .before .basis .result) (s .before .before .before .load-values .result) (s .before .before .before .before .before .before .args .bytes .now) (s .shares-from .result) (l .i)
+    (c .before .before .word .ensures) (weights .weights .ensures ∙ ap (weightsBy (s .before .basis .result)) (weights .before .point .ensures)) (c .before .share-fits .ensures) (omega arith) in (
       omega arith,
       l .inv .1,
       ⊎-elim
@@ -86,11 +89,12 @@ loop-again c =
 returns : tie.Need-returns Inv-loop μ-loop
 returns c =
     let s = c .before .before in
-    let a = s .before .before .before .before .before .args in
+    let p = s .before .before in
+    let a = p .before .before .before .before .args in
     let end : c .before .loop .i ≡ a .setup .n = omega arith in
     c .before .loop .inv .2
-    ∙ rw (end, s .before .committed-points .ensures, s .before .before .load-values .ensures, s .shares-from .ensures, s .before .before .before .quorum .ensures)
-    (wrong-shares (a .setup) (a .bytes .now) (s .before .before .before .before .before .pre))
+    ∙ rw (end, s .before .basis .ensures, p .committed-points .ensures, p .before .load-values .ensures, s .shares-from .ensures, p .before .before .quorum .ensures)
+    (wrong-shares (a .setup) (a .bytes .now) (p .before .before .before .before .pre))
 
 pub wrong-shares-spec : {M : Type 1} → statement M
 wrong-shares-spec =
@@ -102,6 +106,7 @@ wrong-shares-spec =
     load-values-requires
     cast-committed-points
     committed-points-requires
+    basis-requires
     shares-from-requires
     loop-holds
     add-j

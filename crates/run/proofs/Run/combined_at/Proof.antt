@@ -15,6 +15,7 @@ use Rattle.records.specs.Laws.{quorum-max}
 use Rattle.protocol.specs.Arrays.{commitmentIn, elements, combinedValue}
 use Rattle.protocol.specs.ArrayLaws.{values-interpolated}
 use Rattle.protocol.specs.Combined.{combined-values}
+use Rattle.protocol.specs.Powers.{combined-powers}
 use Rattle.run.specs.Runs.{transcriptOf, qualOf}
 use Rattle.run.specs.RunLaws.{formed-of}
 use borrow.Author.Needs.{needs}
@@ -28,6 +29,9 @@ cast-quorum : tie.Need-cast-quorum
 cast-quorum c =
     let start = c .before .before in
     omega (arith, c .quorum .ensures, quorum-max (formed-of (start .args .self) (start .pre) .bounds))
+
+powers-at-requires : tie.Need-powers-at-requires
+powers-at-requires c κs = search needs
 
 qual-requires : tie.Need-qual-requires
 qual-requires c κs = search needs
@@ -48,17 +52,18 @@ returns : tie.Need-returns
 unfolding transcriptOf qualOf
 returns c =
     let b = c .before .before .before .before in
-    let r = b .before .before .before .args .self in
-    let u = b .before .before .before .args .u in
-    let x = b .before .before .before .args .x in
+    let start = b .before .before .before .before in
+    let r = start .args .self in
+    let u = start .args .u in
+    let x = start .args .x in
     let m = quorum (r .setup .t) (r .setup .a) in
-    let few : m ≤ 64 = omega (arith, quorum-max (formed-of r (b .before .before .before .pre) .bounds)) in
+    let few : m ≤ 32 = omega (arith, quorum-max (formed-of r (start .pre) .bounds)) in
     c .product .ensures
     ∙ ap₂ productOf
-    (c .before .weights .ensures ∙ ap (λ (p : Row). weightsOf p x) (c .before .before .committed-points .ensures ∙ ap (λ (k : ℕ). listed k (committedPoint (r .setup .a))) (b .before .quorum .ensures)))
-    (c .before .before .before .combined-values .ensures
-    ∙ ap₂ (λ (s k : ℕ). elements k (combinedValue (r .setup .n) (has s) (commitmentIn (r .dealings .commitments)) u)) (b .qual .ensures) (b .before .quorum .ensures))
-    ∙ values-interpolated m (r .setup .a) _ x few
+    (c .before .weights .ensures ∙ ap (λ (p : Row). weightsOf p x) (c .before .before .committed-points .ensures ∙ ap (λ (k : ℕ). listed k (committedPoint (r .setup .a))) (b .before .before .quorum .ensures)))
+    (combined-powers (r .setup .n) _ (r .dealings .commitments) u _ (omega (arith, b .before .before .quorum .ensures)) refl (b .before .powers-at .ensures) (c .before .before .before .combined-values .ensures)
+    ∙ ap₂ (λ (s k : ℕ). elements k (combinedValue (r .setup .n) (has s) (commitmentIn (r .dealings .commitments)) u)) (b .qual .ensures) (b .before .before .quorum .ensures))
+    ∙ values-interpolated m (r .setup .a) _ x (omega arith)
     ∙ ap (λ (q : ℕ → Bool). elementAt (committedPoint (r .setup .a)) m (combinedValue (r .setup .n) q (commitmentIn (r .dealings .commitments)) u) x)
     (fun-ext (has-minus (r .dealings .dealers) (r .complaints .blamed)))
     ∙ sym (combined-values (transcriptOf r) u x)
@@ -69,6 +74,7 @@ combined-at-spec =
     (tie.spec
     quorum-requires
     cast-quorum
+    powers-at-requires
     qual-requires
     combined-values-requires
     committed-points-requires

@@ -2,12 +2,14 @@
 use borrow.Author.Needs.{needs}
 use native.Mathlib.Omega.{arith}
 use native.Mathlib.Nat.{mul-le-mul, le-refl, mod-lt, div-lt-iff-lt-mul}
-use mathlib.Core.Path.{_≡_, refl}
+use mathlib.Core.Path.{_≡_, refl, ap, _∙_}
 use Prim.Native.Nat.{ℕ, _+_, _*_, _-_, _/_, _%_, _≤_, _<_}
 use Rattle.lists.specs.Stores.{stored}
 use Rattle.field.specs.declared.Scalar.{Scalar}
+use Rattle.interpolation.specs.Rows.{basisOf}
 use Rattle.records.specs.Parameters.{batch}
 use Rattle.records.specs.Laws.{key-max, batch-max, cells-max}
+use Rattle.protocol.specs.Arrays.{memberPoints}
 use Rattle.run.specs.declared.Run.{Run}
 use Rattle.run.specs.Runs.{phiOf}
 use Rattle.run.specs.Steps.{finished}
@@ -21,15 +23,21 @@ abbrev cell : Run → ℕ → Scalar
 cell r x = phiOf r (x / r .setup .a + 1) (x % r .setup .a + 1)
 
 abbrev Inv-loop : tie.InvT-loop
-Inv-loop self a signatures₀ count x₀ signatures x =
-    (x ≤ count) × (0 < a) × (a ≤ 31) × (count ≤ 30 * a) × (count ≤ 512) × (signatures ≡ stored (self .signatures) 0 x (cell self))
+Inv-loop self a basis signatures₀ count x₀ signatures x =
+    (basis ≡ basisOf (memberPoints (self .setup .n) (self .responses .responders))) × (x ≤ count) × (0 < a) × (a ≤ 31) × (count ≤ 30 * a) × (count ≤ 512) × (signatures ≡ stored (self .signatures) 0 x (cell self))
 
 abbrev μ-loop : tie.MeasureT-loop
-μ-loop self a signatures₀ count x₀ signatures x = count - x
+μ-loop self a basis signatures₀ count x₀ signatures x = count - x
 
 -- u is at most 30
-few : (c : tie.In-loop Inv-loop μ-loop) → c .before .loop .x / c .before .before .before .before .args .self .setup .a < 30
-few c = div-lt-iff-lt-mul (c .before .loop .inv .1) .1 (omega arith)
+few : (c : tie.In-loop Inv-loop μ-loop) → c .before .loop .x / c .before .before .before .before .before .before .args .self .setup .a < 30
+few c = div-lt-iff-lt-mul (c .before .loop .inv .2) .1 (omega arith)
+
+member-points-requires : tie.Need-member-points-requires Inv-loop μ-loop
+member-points-requires c κs = search needs
+
+basis-requires : tie.Need-basis-requires Inv-loop μ-loop
+basis-requires c κs = search needs
 
 cast-count : tie.Need-cast-count Inv-loop μ-loop
 cast-count c = search needs
@@ -42,16 +50,17 @@ cast-count-2 c = search needs
 
 mul-count : tie.Need-mul-count Inv-loop μ-loop
 mul-count c =
-    let start = c .before .before in
+    let start = c .before .before .before .before in
     rw (c .batch .ensures) (omega (arith, cells-max (formed-of (start .args .self) (start .pre) .bounds)))
 
 loop-holds : tie.Need-loop-holds Inv-loop μ-loop
 unfolding stored
 loop-holds c =
-    let start = c .before .before in
+    let basis = c .before .before in
+    let start = basis .before .before in
     let bounds = formed-of (start .args .self) (start .pre) .bounds in
     let rows : start .args .self .setup .a * c .batch .result ≤ start .args .self .setup .a * 30 = rw (c .batch .ensures) (mul-le-mul (le-refl _) (batch-max bounds)) in
-    (omega arith, bounds .a-pos, omega (arith, key-max bounds), omega arith, rw (c .batch .ensures) (cells-max bounds), refl)
+    (basis .basis .ensures ∙ ap basisOf (basis .before .member-points .ensures), omega arith, bounds .a-pos, omega (arith, key-max bounds), omega arith, rw (c .batch .ensures) (cells-max bounds), refl)
 
 cast-u : tie.Need-cast-u Inv-loop μ-loop
 cast-u c = search needs
@@ -72,13 +81,13 @@ rem-k : tie.Need-rem-k Inv-loop μ-loop
 rem-k c = search needs
 
 add-k : tie.Need-add-k Inv-loop μ-loop
-add-k c = omega (arith, mod-lt (c .before .loop .x) (c .before .loop .inv .1))
+add-k c = omega (arith, mod-lt (c .before .loop .x) (c .before .loop .inv .2))
 
 cast-k-2 : tie.Need-cast-k-2 Inv-loop μ-loop
-cast-k-2 c = omega (arith, mod-lt (c .before .loop .x) (c .before .loop .inv .1))
+cast-k-2 c = omega (arith, mod-lt (c .before .loop .x) (c .before .loop .inv .2))
 
 interpolated-requires : tie.Need-interpolated-requires Inv-loop μ-loop
-interpolated-requires c κs = c .before .before .before .before .pre
+interpolated-requires c κs = c .before .loop .inv .0
 
 cast-signatures : tie.Need-cast-signatures Inv-loop μ-loop
 cast-signatures c = search needs
@@ -98,16 +107,16 @@ loop-less c = search needs
 loop-again : tie.Need-loop-again Inv-loop μ-loop
 loop-again c =
     let l = c .before .before .loop in
-    let r = c .before .before .before .before .before .args .self in
-    (omega arith, l .inv .1, l .inv .2, l .inv .3, l .inv .4, load-in (r .signatures) 0 (l .x) (cell r) (l .inv .5) (omega arith) (c .interpolated .ensures) refl)
+    let r = c .before .before .before .before .before .before .before .args .self in
+    (l .inv .0, omega arith, l .inv .2, l .inv .3, l .inv .4, l .inv .5, load-in (r .signatures) 0 (l .x) (cell r) (l .inv .6) (omega arith) (c .interpolated .ensures) refl)
 
 returns : tie.Need-returns Inv-loop μ-loop
 unfolding finished
 returns c =
     let b = c .before .before in
-    let r = b .before .before .args .self in
+    let r = b .before .before .before .before .args .self in
     let end : c .before .loop .x ≡ r .setup .a * batch (r .setup .n) (r .setup .t) = rw (← b .batch .ensures) (omega arith) in
-    rw (loaded (r .signatures) 0 _ (cell r) (c .before .loop .inv .5) end)
+    rw (loaded (r .signatures) 0 _ (cell r) (c .before .loop .inv .6) end)
 
 pub finish-spec : {M : Type 1} → statement M
 finish-spec =
@@ -115,6 +124,8 @@ finish-spec =
     (tie.spec
     Inv-loop
     μ-loop
+    member-points-requires
+    basis-requires
     cast-count
     batch-requires
     cast-count-2

@@ -2,12 +2,10 @@
 use borrow.Author.Needs.{needs}
 use native.Mathlib.Omega.{arith}
 use mathlib.Core.Path.{_∙_}
+use Rattle.interpolation.specs.Bases.{weights-by}
 use Rattle.run.proofs.Rows.{phi-members}
 use Rattle.run.proofs.Run.interpolated.Statement.{statement}
 use Rattle.run.proofs.Run.interpolated.Tie as tie
-
-member-points-requires : tie.Need-member-points-requires
-member-points-requires c κs = search needs
 
 point-requires : tie.Need-point-requires
 point-requires c κs = search needs
@@ -24,18 +22,16 @@ sum-requires c κs = search needs
 returns : tie.Need-returns
 returns c =
     let weights = c .before .before in
-    let members = weights .before .before in
-    let start = members .before .before in
+    let start = weights .before .before .before in
     let responses = start .good .0 .1 .1 .1 .1 .1 .1 .1 .0 in
     c .sum .ensures
-    ∙ rw (c .before .member-numbers .ensures, weights .weights .ensures, members .member-points .ensures, weights .before .point .ensures)
+    ∙ rw (c .before .member-numbers .ensures, weights .weights .ensures, start .pre, weights-by, weights .before .point .ensures)
     (phi-members (start .args .self) (start .args .u) (start .args .k) (omega (arith, responses)))
 
 pub interpolated-spec : {M : Type 1} → statement M
 interpolated-spec =
     tie.close
     (tie.spec
-    member-points-requires
     point-requires
     weights-requires
     member-numbers-requires

@@ -1,5 +1,5 @@
--- `Run::row_passes` meets its contract. The inner loop keeps the product of value^weight over the committed points passed; the outer one has met no
--- number that fails. Assumes nothing.
+-- `Run::row_passes` meets its contract. The inner loop keeps the product of value^weight over the committed points passed; the outer one has raised the
+-- powers to those of u and met no number that fails. Assumes nothing.
 use borrow.Author.Needs.{needs}
 use borrow.Author.Tests.{eq-eqb, ne-eqb}
 use native.Mathlib.Omega.{arith}
@@ -16,6 +16,8 @@ use Rattle.records.specs.Parameters.{batch}
 use Rattle.records.specs.Bytes.{word, sender}
 use Rattle.records.specs.Laws.{bounds-test, quorum-max, batch-max}
 use Rattle.protocol.specs.Transcript.{passes}
+use Rattle.protocol.specs.Arrays.{powersAt}
+use Rattle.protocol.specs.Powers.{powers-none, powers-next, combined-powers}
 use Rattle.run.specs.Runs.{transcriptOf}
 use Rattle.run.specs.RunLaws.{formed-of}
 use Rattle.run.proofs.Rows.{wanted, fits, all-weights, row-tested}
@@ -23,20 +25,21 @@ use Rattle.run.proofs.Run.row_passes.Statement.{statement}
 use Rattle.run.proofs.Run.row_passes.Tie as tie
 
 abbrev Inv-loop : tie.InvT-loop
-Inv-loop bytes setup list challenges qual quorum key at-slots at-points passed u values image₀ v₀ u-end image v =
+Inv-loop bytes setup challenges qual quorum key at-slots at-points powers passed u values image₀ v₀ u-end image v =
     (v ≤ quorum) × (image ≡ productOf (first v at-points) values)
 
 abbrev μ-loop : tie.MeasureT-loop
-μ-loop bytes setup list challenges qual quorum key at-slots at-points passed u values image₀ v₀ u-end image v =
+μ-loop bytes setup challenges qual quorum key at-slots at-points powers passed u values image₀ v₀ u-end image v =
     quorum - v
 
 abbrev Inv-row : tie.InvT-row
-Inv-row bytes setup list challenges qual quorum key at-slots at-points passed₀ u₀ u-end passed u =
+Inv-row bytes setup challenges qual quorum key at-slots at-points powers₀ passed₀ u₀ u-end powers passed u =
     (u ≤ u-end) × (u-end ≤ 30) × (quorum ≤ 30) × (passed ≡ true)
-    × (allTo u (fits setup list challenges qual quorum key at-slots at-points bytes) ≡ true)
+    × (powers ≡ powersAt (setup .n) powers₀ u)
+    × (allTo u (fits setup powers₀ challenges qual quorum key at-slots at-points bytes) ≡ true)
 
 abbrev μ-row : tie.MeasureT-row
-μ-row bytes setup list challenges qual quorum key at-slots at-points passed₀ u₀ u-end passed u = u-end - u
+μ-row bytes setup challenges qual quorum key at-slots at-points powers₀ passed₀ u₀ u-end powers passed u = u-end - u
 
 -- ---- what is known before the rows
 
@@ -44,7 +47,7 @@ abbrev start : tie.After-batch Inv-loop μ-loop Inv-row μ-row → tie.Start Inv
 start b = b .before .before .before .before .before .before .before .before .before .before .before .before .before .before
 
 abbrev points : tie.After-batch Inv-loop μ-loop Inv-row μ-row → tie.After-committed-points Inv-loop μ-loop Inv-row μ-row
-points b = b .before .before
+points b = b .before .before .before
 
 -- the code's test of a number
 abbrev fits-of : tie.After-batch Inv-loop μ-loop Inv-row μ-row → ℕ → Bool
@@ -53,7 +56,7 @@ fits-of b =
     let key = w .before .before in
     let q = key .before .before .before in
     let r = start b .args .self in
-    fits (r .setup) (r .dealings .commitments) (r .challenges) (q .before .qual .result) (q .quorum .result) (key .key-at .result) (w .weights .result) (b .before .weights2 .result) (start b .args .bytes .now)
+    fits (r .setup) (r .dealings .commitments) (r .challenges) (q .before .qual .result) (q .quorum .result) (key .key-at .result) (w .weights .result) (b .before .before .weights2 .result) (start b .args .bytes .now)
 
 -- it is that of the definition
 tested : (b : tie.After-batch Inv-loop μ-loop Inv-row μ-row)
@@ -66,12 +69,12 @@ tested b =
     let at = key .before in
     let q = at .before .before in
     row-tested (start b .args .self) (start b .args .bytes .now) (start b .pre) (at .before .byte .ensures) (at .point .ensures) (q .before .qual .ensures) (q .quorum .ensures)
-    (key .key-at .ensures) (w .before .slot-points .ensures) (w .weights .ensures) (points b .committed-points .ensures) (b .before .weights2 .ensures) (b .batch .ensures)
+    (key .key-at .ensures) (w .before .slot-points .ensures) (w .weights .ensures) (points b .committed-points .ensures) (b .before .before .weights2 .ensures) (b .batch .ensures)
 
 -- the weights are as many as the committed points
 all-points : (b : tie.After-batch Inv-loop μ-loop Inv-row μ-row) → points b .before .before .before .before .before .before .quorum .result ≤ 64
-    → first (points b .before .before .before .before .before .before .quorum .result) (b .before .weights2 .result) ≡ b .before .weights2 .result
-all-points b l = all-weights _ _ _ l (points b .committed-points .ensures) (b .before .weights2 .ensures)
+    → first (points b .before .before .before .before .before .before .quorum .result) (b .before .before .weights2 .result) ≡ b .before .before .weights2 .result
+all-points b l = all-weights _ _ _ l (points b .committed-points .ensures) (b .before .before .weights2 .ensures)
 
 -- ---- what is known where a number is compared
 
@@ -96,8 +99,8 @@ compared c =
     let sent = c .before .before .pow3 .ensures ∙ ap (λ (x : ℕ). raise generator (scalar x)) (c .before .before .before .word .ensures) in
     let image =
     l .loop .inv .1
-    ∙ ap (λ (n : ℕ). productOf (first n (b .before .weights2 .result)) (l .before .combined-values .result)) end
-    ∙ ap₂ productOf (all-points b (omega (arith, r .row .inv .2))) (l .before .combined-values .ensures) in
+    ∙ ap (λ (n : ℕ). productOf (first n (b .before .before .weights2 .result)) (l .before .combined-values .result)) end
+    ∙ ap₂ productOf (all-points b (omega (arith, r .row .inv .2))) (combined-powers _ _ _ (r .row .u + 1) _ (omega (arith, r .row .inv .2)) (omega arith) (r .row .inv .4) (l .before .combined-values .ensures)) in
     let power = m .before .pow2 .ensures ∙ ap (raise (key .key-at .result)) (m .before .before .sum .ensures ∙ ap (sumOf (points b .before .weights .result)) (e .challenge-values .ensures)) in
     ap₂ (λ (v w : Element). eqb (v .0) (w .0)) sent (m .mul2 .ensures ∙ ap₂ product image power)
 
@@ -111,7 +114,7 @@ quorum-requires c κs = search needs
 
 cast-quorum : tie.Need-cast-quorum Inv-loop μ-loop Inv-row μ-row
 cast-quorum c =
-    let start = c .before .before .before .before .before .before in
+    let start = c .before .before .before .before .before in
     omega (arith, quorum-max (formed-of (start .args .self) (start .pre) .bounds))
 
 byte-requires : tie.Need-byte-requires Inv-loop μ-loop Inv-row μ-row
@@ -122,7 +125,7 @@ point-requires c κs = search needs
 
 key-at-requires : tie.Need-key-at-requires Inv-loop μ-loop Inv-row μ-row
 key-at-requires c κs =
-    let start = c .before .before .before .before .before .before .before .before in
+    let start = c .before .before .before .before .before .before .before in
     bounds-test (formed-of (start .args .self) (start .pre) .bounds)
 
 slot-points-requires : tie.Need-slot-points-requires Inv-loop μ-loop Inv-row μ-row
@@ -144,16 +147,14 @@ row-holds : tie.Need-row-holds Inv-loop μ-loop Inv-row μ-row
 unfolding allTo
 row-holds c =
     let bounds = formed-of (start c .args .self) (start c .pre) .bounds in
-    (omega arith, omega (arith, c .batch .ensures, batch-max bounds), omega (arith, points c .before .before .before .before .before .before .quorum .ensures, quorum-max bounds), refl, refl)
-
-add-combined-values : tie.Need-add-combined-values Inv-loop μ-loop Inv-row μ-row
-add-combined-values c = search needs
+    let need = points c .before .before .before .before .before .before .quorum .ensures in
+    (omega arith, omega (arith, c .batch .ensures, batch-max bounds), omega (arith, need, quorum-max bounds), refl, powers-none _ _, refl)
 
 combined-values-requires : tie.Need-combined-values-requires Inv-loop μ-loop Inv-row μ-row
 combined-values-requires c κs = search needs
 
 loop-holds : tie.Need-loop-holds Inv-loop μ-loop Inv-row μ-row
-loop-holds c = (omega arith, sym (product-none (c .before .before .before .before .weights2 .result) (c .combined-values .result)))
+loop-holds c = (omega arith, sym (product-none (c .before .before .before .before .before .weights2 .result) (c .combined-values .result)))
 
 cast-value : tie.Need-cast-value Inv-loop μ-loop Inv-row μ-row
 cast-value c = search needs
@@ -190,7 +191,7 @@ loop-again c =
     let l = c .before .before .before .before .before in
     let b = l .before .before .before .before in (
       omega arith,
-      c .mul .ensures ∙ ap₂ product (l .loop .inv .1) (c .before .pow .ensures) ∙ sym (product-next (b .before .weights2 .result) (l .before .combined-values .result) (l .loop .v) (omega arith)),
+      c .mul .ensures ∙ ap₂ product (l .loop .inv .1) (c .before .pow .ensures) ∙ sym (product-next (b .before .before .weights2 .result) (l .before .combined-values .result) (l .loop .v) (omega arith)),
     )
 
 add-challenge-values : tie.Need-add-challenge-values Inv-loop μ-loop Inv-row μ-row
@@ -217,6 +218,9 @@ word-requires c κs = search needs
 pow-requires-3 : tie.Need-pow-requires-3 Inv-loop μ-loop Inv-row μ-row
 pow-requires-3 c κs = search needs
 
+raised-requires : tie.Need-raised-requires Inv-loop μ-loop Inv-row μ-row
+raised-requires c κs = search needs
+
 add-u : tie.Need-add-u Inv-loop μ-loop Inv-row μ-row
 add-u c = search needs
 
@@ -225,15 +229,22 @@ row-less c = search needs
 
 row-again : tie.Need-row-again Inv-loop μ-loop Inv-row μ-row
 row-again c =
-    let r = turn (c .before) .before in
-    let good = sym (compared (c .before)) ∙ eq-eqb _ _ (c .if1 .left) in
-    (omega (arith, turn (c .before) .row-test .taken), r .row .inv .1, r .row .inv .2, r .row .inv .3, all-next (r .row .u) (fits-of (r .before)) ∙ rw (r .row .inv .4, good))
+    let k = c .before .before in
+    let r = turn k .before in
+    let good = sym (compared k) ∙ eq-eqb _ _ (c .before .if1 .left) in (
+      omega (arith, turn k .row-test .taken),
+      r .row .inv .1,
+      r .row .inv .2,
+      r .row .inv .3,
+      powers-next _ _ (r .row .u) (r .row .inv .4) (c .raised .ensures),
+      all-next (r .row .u) (fits-of (r .before)) ∙ rw (r .row .inv .5, good),
+    )
 
 returns : tie.Need-returns Inv-loop μ-loop Inv-row μ-row
 returns c =
     let r = c .before in
     let end : r .row .u ≡ r .before .batch .result = omega arith in
-    r .row .inv .3 ∙ sym (rw end at (r .row .inv .4)) ∙ tested (r .before)
+    r .row .inv .3 ∙ sym (rw end at (r .row .inv .5)) ∙ tested (r .before)
 
 returns-2 : tie.Need-returns-2 Inv-loop μ-loop Inv-row μ-row
 returns-2 c =
@@ -262,7 +273,6 @@ row-passes-spec =
     weights-requires-2
     batch-requires
     row-holds
-    add-combined-values
     combined-values-requires
     loop-holds
     cast-value
@@ -284,6 +294,7 @@ row-passes-spec =
     cast-word
     word-requires
     pow-requires-3
+    raised-requires
     add-u
     row-less
     row-again
