@@ -219,11 +219,17 @@ fn put_page(log: &[u8], out: &mut [u8]) -> usize
     while from < log.len() {
         let rest = &log[from..];
         let length = next_length(run, rest);
-        let reply = run.step(&rest[..length]);
-        if reply.number != 0 {
-            at = put_refusal(out, at, position, reply.number);
-        } else {
-            run = reply.run;
+        let record = &rest[..length];
+        let mut number = run.untaken(record);
+        if number == 0 {
+            let reply = run.step(record);
+            number = reply.number;
+            if number == 0 {
+                run = reply.run;
+            }
+        }
+        if number != 0 {
+            at = put_refusal(out, at, position, number);
         }
         from += length;
         position += 1;

@@ -12,7 +12,7 @@ use Rattle.field.specs.declared.Element.{Element}
 use Rattle.field.specs.Definitions.{scalar, element}
 use Rattle.records.specs.Parameters.{quorum, batch}
 use Rattle.records.specs.Bytes.{byteAt, numberAt, word, sender}
-use Rattle.records.specs.Tags.{Tag, SU, DE, VE, CH, RE, unknown, tagOf}
+use Rattle.records.specs.Tags.{Tag, SU, DE, VE, CH, RE, unknown, code, tagOf}
 use Rattle.records.specs.Refusals.{sharesFrom, setupRefusal, dealingRefusal, complaintRefusal, challengesRefusal, responseRefusal}
 use Rattle.run.specs.declared.Setup.{Setup}
 use Rattle.run.specs.declared.Dealings.{Dealings}
@@ -200,6 +200,10 @@ stepAt unknown r s = refused r 1
 -- what a record, any bytes, does to a run
 unfoldable pub stepOf : Run → List ℕ → Reply
 stepOf r s = stepAt (tagOf s) r s
+
+-- the refusal by tag and stage alone: 1 for an unknown tag, 11 for one that the stage does not take, else 0. The stage that takes a tag is one below its code
+unfoldable pub untaken : Run → List ℕ → ℕ
+untaken r s = pick (eqb (code (tagOf s)) 0) 1 (pick (eqb (stageOf r) (code (tagOf s) - 1)) 0 11)
 
 -- the run after a list of records: each is given to the run returned for the one before it, after a refusal too
 unfoldable pub afterFrom : Run → List (List ℕ) → Run

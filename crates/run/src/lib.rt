@@ -14,7 +14,7 @@ ghost use Rattle.protocol.specs.Transcript.{combinedAt, passes};
 ghost use Rattle.interpolation.specs.Rows.{basisOf};
 ghost use Rattle.protocol.specs.Arrays.{elements, memberPoints};
 ghost use Rattle.run.specs.Runs.{fresh, begun, wellFormed, stageOf, transcriptOf, qualOf, setsOf, keyOf, phiOf, kept};
-ghost use Rattle.run.specs.Steps.{refused, answered, setupOf, afterSetup, dealingNumber, wrongShares, withDealing, afterDealing, mayBlame, complaintNumber, withComplaint, complaintStage, afterComplaint, challengesNumber, afterChallenges, responseNumber, withResponse, withRow, finished, afterResponse, stepOf};
+ghost use Rattle.run.specs.Steps.{refused, answered, setupOf, afterSetup, dealingNumber, wrongShares, withDealing, afterDealing, mayBlame, complaintNumber, withComplaint, complaintStage, afterComplaint, challengesNumber, afterChallenges, responseNumber, withResponse, withRow, finished, afterResponse, stepOf, untaken};
 ghost use Rattle.run.specs.Answers.{inBatch, nonceOf, signatureOf};
 use field::Element;
 use field::Scalar;
@@ -630,6 +630,17 @@ impl Run {
             run: next,
             number: 0,
         }
+    }
+
+    // The refusal by tag and stage alone: 1 for an unknown tag, 11 for one that the stage does not take, else 0.
+    pub fn untaken(self, bytes: &[u8]) -> u8
+        ensures { λ r. ⌜ r ≡ untaken self (now (bytes .entry)) ⌝ }
+    {
+        let tag = records::tag(bytes);
+        if tag < 1 {
+            return 1;
+        }
+        if self.stage_of() == tag - 1 { 0 } else { 11 }
     }
 
     // What a record, any bytes, does to the run.

@@ -9,8 +9,9 @@ use borrow.Author.Tests.{eq-eqb, ne-eqb}
 use lib.ListN.{length, take, drop, length-drop}
 use lib.Seq.{take-all, length-take-le}
 use Rattle.run.specs.declared.Reply.{Reply}
-use Rattle.run.specs.Steps.{stepOf}
-use Rattle.run.specs.Refused.{refusal-keeps}
+use Rattle.run.specs.declared.Run.{Run}
+use Rattle.run.specs.Steps.{stepOf, untaken}
+use Rattle.run.specs.Refused.{refusal-keeps, untaken-refused}
 use Rattle.log.specs.Texts.{Wrote, wrote-none, wrote-append}
 use Rattle.log.specs.Turns.{nextLength, nextRecord, lineOf, next-pos, next-max}
 use Rattle.log.proofs.Reading.{Reading, reading-start, reading-place, reading-length, reading-next, reading-lines, reading-run}
@@ -65,24 +66,82 @@ passed c =
     let some : 0 < length s = omega (arith, i .loop-test .taken, length-drop (l .loop .from) log) in
     (omega (arith, measured c, next-pos (l .loop .run) s some), omega (arith, measured c, next-max (l .loop .run) s, length-drop (l .loop .from) log, l .loop .inv .within))
 
-slice-aggregate-step : tie.Need-slice-aggregate-step Inv-loop μ-loop
-slice-aggregate-step c =
+slice-aggregate-record : tie.Need-slice-aggregate-record Inv-loop μ-loop
+slice-aggregate-record c =
     let n = c .before in
     let l = n .before .before .before in
     let log = l .before .before .before .before .args .log .now in
     rw (left-is log (l .loop .from)) (sym (length-take-le (n .next-length .result) (drop (l .loop .from) log) (omega (arith, passed n .1, length-drop (l .loop .from) log))))
 
+untaken-requires : tie.Need-untaken-requires Inv-loop μ-loop
+untaken-requires c κs = search needs
+
 step-requires : tie.Need-step-requires Inv-loop μ-loop
 step-requires c κs = search needs
 
--- the reply to the next record
-replied : (c : tie.After-step Inv-loop μ-loop) →
+-- ---- what a turn makes of the record
+
+-- the record as the code lends it
+record-is : (c : tie.After-next-length Inv-loop μ-loop) →
+    let l = c .before .before .before in
+    let log = l .before .before .before .before .args .log .now in
+    take (c .next-length .result) (take (length log - l .loop .from) (drop (l .loop .from) log)) ≡ nextRecord (l .loop .run) (drop (l .loop .from) log)
+record-is c =
+    let l = c .before .before .before in
+    ap₂ take (measured c) (left-is (l .before .before .before .before .args .log .now) (l .loop .from))
+
+asked : (c : tie.After-untaken Inv-loop μ-loop) →
     let l = c .before .before .before .before .before in
-    c .step .result ≡ stepOf (l .loop .run) (nextRecord (l .loop .run) (drop (l .loop .from) (l .before .before .before .before .args .log .now)))
-replied c =
+    let s = drop (l .loop .from) (l .before .before .before .before .args .log .now) in
+    c .untaken .result ≡ untaken (l .loop .run) (nextRecord (l .loop .run) s)
+asked c =
     let n = c .before .before in
-    let l = n .before .before .before in
-    c .step .ensures ∙ ap₂ (λ (k : ℕ) (t : List ℕ). stepOf (l .loop .run) (take k t)) (measured n) (left-is (l .before .before .before .before .args .log .now) (l .loop .from))
+    c .untaken .ensures ∙ ap (untaken (n .before .before .before .loop .run)) (record-is n)
+
+replied : (c : tie.After-step Inv-loop μ-loop) →
+    let l = c .before .before .before .before .before .before .before in
+    let s = drop (l .loop .from) (l .before .before .before .before .args .log .now) in
+    c .step .result ≡ stepOf (l .loop .run) (nextRecord (l .loop .run) s)
+replied c =
+    let n = c .before .before .before .before in
+    c .step .ensures ∙ ap (stepOf (n .before .before .before .loop .run)) (record-is n)
+
+-- where the three ways meet, number and run are those of the step
+given : (c : tie.Joined1 Inv-loop μ-loop) →
+    let l = c .before .before .before .before .before .before in
+    let s = drop (l .loop .from) (l .before .before .before .before .args .log .now) in
+    let reply = stepOf (l .loop .run) (nextRecord (l .loop .run) s) in
+    (c .if1 .number ≡ reply .number) × (c .if1 .run ≡ reply .run)
+given c =
+    let l = c .before .before .before .before .before .before in
+    let r = l .loop .run in
+    let s = nextRecord r (drop (l .loop .from) (l .before .before .before .before .args .log .now)) in
+    ⊎-elim
+    (λ w.
+    let reply = replied (record { before = record { before = c .before; if1 = w .0 }; step = w .1 }) in
+    (w .5 ∙ ap number reply, w .4 ∙ ap run reply))
+    (⊎-elim
+    (λ w.
+    let reply = replied (record { before = record { before = c .before; if1 = w .0 }; step = w .1 }) in
+    (w .4 ∙ ap number reply, w .3 ∙ sym (refusal-keeps r s (λ e. w .2 .left (ap number reply ∙ e)))))
+    (λ w.
+    let refusal = untaken-refused r s (λ e. w .0 .left (asked (c .before) ∙ e)) in
+    (w .2 ∙ asked (c .before) ∙ sym (ap number refusal), w .1 ∙ sym (ap run refusal))))
+    (c .if1 .came)
+  where
+    number : Reply → ℕ
+    number z = z .number
+
+    run : Reply → Run
+    run z = z .run
+
+-- the line is stored, if there is one
+stored : (c : tie.Joined3 Inv-loop μ-loop) →
+    let l = c .before .before .before .before .before .before .before in
+    Wrote (l .loop .out) (c .if3 .out) (l .loop .at) (c .if3 .at) (lineOf (l .loop .position) (c .before .if1 .number))
+unfolding lineOf
+stored c =
+    ⊎-elim (λ w. rw (w .5, w .6, ne-eqb _ 0 (w .0 .taken)) (w .2 .ensures)) (λ w. rw (w .1, w .2, eq-eqb _ 0 (w .0 .left)) (wrote-none _ _)) (c .if3 .came)
 
 put-refusal-requires : tie.Need-put-refusal-requires Inv-loop μ-loop
 put-refusal-requires c κs =
@@ -102,31 +161,12 @@ add-position c =
 loop-less : tie.Need-loop-less Inv-loop μ-loop
 loop-less c = omega (arith, passed (c .before .before .before .before))
 
--- where the two ways meet the line is stored, if there is one
-stored : (c : tie.Joined1 Inv-loop μ-loop) →
-    let st = c .before .before in
-    let l = st .before .before .before .before .before in
-    Wrote (l .loop .out) (c .if1 .out) (l .loop .at) (c .if1 .at) (lineOf (l .loop .position) (st .step .result .number))
-unfolding lineOf
-stored c =
-    ⊎-elim (λ w. rw (w .5, w .7, ne-eqb _ 0 (w .0 .taken)) (w .2 .ensures)) (λ w. rw (w .2, w .4, eq-eqb _ 0 (w .0 .left)) (wrote-none _ _)) (c .if1 .came)
-
--- and the run is the reply's: a refusal left it as it was
-same-run : (c : tie.Joined1 Inv-loop μ-loop) → c .if1 .run ≡ c .before .before .step .result .run
-same-run c =
-    let st = c .before .before in
-    let reply = replied st in
-    ⊎-elim
-    (λ w. w .6 ∙ sym (ap (λ (z : Reply). z .run) reply ∙ refusal-keeps _ _ (λ e. w .0 .taken (ap (λ (z : Reply). z .number) reply ∙ e))))
-    (λ w. w .3)
-    (c .if1 .came)
-
 loop-again : tie.Need-loop-again Inv-loop μ-loop
 loop-again c =
-    let st = c .before .before in
-    let n = st .before .before in
+    let n = c .before .before .before .before in
     let i = n .before .before in
-    rw (same-run c, replied st, measured n) (reading-next (i .before .loop .inv) (i .loop-test .taken) (rw (replied st) at (stored c)))
+    let reply = given (c .before) in
+    rw (reply .1, measured n) (reading-next (i .before .loop .inv) (i .loop-test .taken) (rw (reply .0) at (stored c)))
 
 put-closing-requires : tie.Need-put-closing-requires Inv-loop μ-loop
 put-closing-requires c κs =
@@ -156,7 +196,8 @@ put-page-spec =
     part-rest-start
     part-rest-end
     next-length-requires
-    slice-aggregate-step
+    slice-aggregate-record
+    untaken-requires
     step-requires
     put-refusal-requires
     add-from
