@@ -16,7 +16,7 @@ fn power_of(modulus: u32, base: u32, exponent: u32) -> u32
 {
     let m = modulus as u64;
     let mut product: u64 = 1;
-    let mut square = base as u64 % m;
+    let mut square = base as u64;
     let mut left = exponent;
     while 1 < left {
         if left % 2 == 1 {

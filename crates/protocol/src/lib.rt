@@ -67,29 +67,22 @@ pub fn powers_at(list: [Element; 1024], n: u8, u: u8) -> [Element; 1024]
     powers
 }
 
-// Value number v of the dealers of a set, multiplied.
-fn combined_value(powers: [Element; 1024], qual: u64, n: u8, v: u8) -> Element
-    ensures { λ r. ⌜ r ≡ combinedValue n (has qual) (commitmentIn powers) 1 v ⌝ }
-{
-    let mut product = Element::ONE;
-    for i in 0..n {
-        if sets::has(qual, i + 1) {
-            let at = i as usize * 32 + v as usize;
-            let value = if at < 1024 { powers[at] } else { Element(0) };
-            product = product.mul(value);
-        }
-    }
-    product
-}
-
-// The values of the dealers of a set, combined for the u whose powers these are.
+// The values of the dealers of a set, combined for the u whose powers these are: one product over the set for each v.
 pub fn combined_values(powers: [Element; 1024], qual: u64, n: u8, quorum: u8) -> [Element; 64]
     ensures { λ r. ⌜ r ≡ elements quorum (combinedValue n (has qual) (commitmentIn powers) 1) ⌝ }
 {
     let m = capped(quorum as usize);
     let mut values = [Element(0); 64];
     for v in 0..m {
-        values[v] = combined_value(powers, qual, n, v as u8);
+        let mut product = Element::ONE;
+        for i in 0..n {
+            if sets::has(qual, i + 1) {
+                let at = i as usize * 32 + v;
+                let value = if at < 1024 { powers[at] } else { Element(0) };
+                product = product.mul(value);
+            }
+        }
+        values[v] = product;
     }
     values
 }

@@ -5,23 +5,20 @@ use native.Mathlib.Nat.{pow-zero, mod-lt, one-mul}
 use mathlib.Core.Logic.{⊎-elim}
 use mathlib.Core.Path.{_≡_, _∙_, ap, sym}
 use Prim.Native.Nat.{ℕ, _*_, _%_, _^_, _<_}
-use Rattle.field.specs.Powers.{pow-one, pow-mod, power-is, even-turn, odd-turn}
+use Rattle.field.specs.Powers.{pow-one, power-is, even-turn, odd-turn}
 use Rattle.field.proofs.Fits.{product-fits}
 use Rattle.field.proofs.power_of.Statement.{statement}
 use Rattle.field.proofs.power_of.Tie as tie
 
 abbrev Inv-loop : tie.InvT-loop
 Inv-loop modulus base exponent m product₀ square₀ left₀ product square left =
-    (product < m) × (square < m) × (product * square ^ left % m ≡ square₀ ^ left₀ % m)
+    (product < m) × (square < 2 ^ 32) × (product * square ^ left % m ≡ square₀ ^ left₀ % m)
 
 abbrev μ-loop : tie.MeasureT-loop
 μ-loop modulus base exponent m product₀ square₀ left₀ product square left = left
 
-rem-square : tie.Need-rem-square Inv-loop μ-loop
-rem-square c = search needs
-
 loop-holds : tie.Need-loop-holds Inv-loop μ-loop
-loop-holds c = (search needs, mod-lt _ (search needs), ap (λ (x : ℕ). x % c .args .modulus) (one-mul _))
+loop-holds c = (search needs, search needs, ap (λ (x : ℕ). x % c .args .modulus) (one-mul _))
 
 mul-product : tie.Need-mul-product Inv-loop μ-loop
 mul-product c = record { fits = product-fits (omega arith) (omega arith) }
@@ -32,8 +29,8 @@ rem-product c = search needs
 mul-square : tie.Need-mul-square Inv-loop μ-loop
 mul-square c = record { fits = product-fits (omega arith) (omega arith) }
 
-rem-square-2 : tie.Need-rem-square-2 Inv-loop μ-loop
-rem-square-2 c = search needs
+rem-square : tie.Need-rem-square Inv-loop μ-loop
+rem-square c = search needs
 
 loop-less : tie.Need-loop-less Inv-loop μ-loop
 loop-less c = search needs
@@ -43,18 +40,20 @@ loop-again c =
     let a = c .before .before .before .args in
     let l = c .before .before .loop in
     let m = a .modulus in
+    let p : 0 < m = omega arith in
+    let small : l .square * l .square % m < 2 ^ 32 = omega (arith, mod-lt (l .square * l .square) p) in
     ⊎-elim
     (λ w.
     let here : c .if1 .product ≡ l .product * l .square % m = cc in
-    (rw here (mod-lt _ (search needs)), mod-lt _ (search needs), rw here (odd-turn m (l .product) (l .square) (l .left) (w .0 .taken) ∙ l .inv .2)))
+    (rw here (mod-lt _ (search needs)), small, rw here (odd-turn m (l .product) (l .square) (l .left) (w .0 .taken) ∙ l .inv .2)))
     (λ w.
     let here : c .if1 .product ≡ l .product = cc in
-    (rw here (l .inv .0), mod-lt _ (search needs), rw here (even-turn m (l .product) (l .square) (l .left) (w .0 .left) ∙ l .inv .2)))
+    (rw here (l .inv .0), small, rw here (even-turn m (l .product) (l .square) (l .left) (w .0 .left) ∙ l .inv .2)))
     (c .if1 .came)
 
 -- what is left is none or one: the last factor
 last-is : (c : tie.Joined2 Inv-loop μ-loop)
-    → let l = c .before .before .loop in (c .if2 .last < c .before .before .before .args .modulus) × (c .if2 .last ≡ l .square ^ l .left)
+    → let l = c .before .before .loop in (c .if2 .last < 2 ^ 32) × (c .if2 .last ≡ l .square ^ l .left)
 last-is c =
     let l = c .before .before .loop in
     ⊎-elim
@@ -78,7 +77,7 @@ returns c =
     let a = c .before .before .before .before .args in
     let l = c .before .before .before .loop in
     let m = a .modulus in
-    ap (λ (x : ℕ). l .product * x % m) (last-is (c .before) .1) ∙ l .inv .2 ∙ pow-mod (a .base) (a .exponent) m ∙ sym (power-is m (a .base) (a .exponent))
+    ap (λ (x : ℕ). l .product * x % m) (last-is (c .before) .1) ∙ l .inv .2 ∙ sym (power-is m (a .base) (a .exponent))
 
 pub power-of-spec : {M : Type 1} → statement M
 power-of-spec =
@@ -86,12 +85,11 @@ power-of-spec =
     (tie.spec
     Inv-loop
     μ-loop
-    rem-square
     loop-holds
     mul-product
     rem-product
     mul-square
-    rem-square-2
+    rem-square
     loop-less
     loop-again
     mul-result
