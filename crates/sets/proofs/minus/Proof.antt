@@ -7,7 +7,7 @@ use Rattle.sets.proofs.minus.Statement.{statement}
 use Rattle.sets.proofs.minus.Tie as tie
 
 sub-result : tie.Need-sub-result
-sub-result c = and-le-l (c .args .a) (c .args .b)
+sub-result c = and-le-l _ _
 
 returns : tie.Need-returns
 unfolding minus
