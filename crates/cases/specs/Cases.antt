@@ -9,7 +9,7 @@ use Rattle.lists.specs.Stores.{stored, filled}
 use Rattle.sets.specs.Masks.{bit, has, insert, minus, maskOf, membersFrom, members}
 use Rattle.field.specs.Definitions.{q, P, scalar, powerTo, powerOf, isScalar, isElement, reduced, plus, times, inverseTo, inverseOf, inverse, power, product, raise}
 use Rattle.field.specs.Definitions as F
-use Rattle.interpolation.specs.Definitions.{point, slot, factor, weight, scalarAt, elementAt}
+use Rattle.interpolation.specs.Definitions.{point, factor, weight, scalarAt, elementAt}
 use Rattle.records.specs.Parameters.{inBounds, quorum, batch}
 use Rattle.records.specs.Bytes.{byteAt, numberAt, word}
 use Rattle.records.specs.Tags.{tagOf, setupLength, dealingLength, complaintLength, challengesLength, responseLength}

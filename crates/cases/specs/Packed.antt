@@ -1,21 +1,19 @@
 -- One more computed log: packing 2, QUAL 2 3 5 6 (no first part of the dealers' numbers), a refused complaint row, a number in range that is no
 -- element, a response row from outside HOLD and one that fails. The second implementation prints the same page. Assumes nothing.
-use Prim.Native.Nat.{ℕ, _+_, _/_, _%_}
+use Prim.Native.Nat.{ℕ, _+_}
 use mathlib.Core.Path.{_≡_, refl}
-use mathlib.Core.Bool.{Bool}
-use mathlib.Core.List.{List, [], _∷_, _++_, map}
+use mathlib.Core.List.{List, [], _∷_, _++_}
 use Rattle.algebra.specs.Fold.{fold}
-use Rattle.lists.specs.Tests.{pick, allTo, require}
+use Rattle.lists.specs.Tests.{allTo, require}
 use Rattle.lists.specs.Stores.{stored, filled}
-use Rattle.sets.specs.Masks.{bit, has, insert, minus, maskOf, membersFrom, members}
-use Rattle.field.specs.Definitions.{q, P, scalar, powerTo, powerOf, isScalar, isElement, reduced, plus, times, inverseTo, inverseOf, inverse, power, product, raise}
+use Rattle.sets.specs.Masks.{bit, has, insert, minus, maskOf, membersFrom}
+use Rattle.field.specs.Definitions.{q, P, powerTo, powerOf, isScalar, isElement, reduced, plus, times, inverseTo, inverseOf, inverse, power, product, raise}
 use Rattle.field.specs.Definitions as F
-use Rattle.interpolation.specs.Definitions.{point, slot, factor, weight, scalarAt, elementAt}
+use Rattle.interpolation.specs.Definitions.{point, factor, weight, scalarAt, elementAt}
 use Rattle.records.specs.Parameters.{inBounds, quorum, batch}
 use Rattle.records.specs.Bytes.{byteAt, numberAt, word}
 use Rattle.records.specs.Tags.{tagOf, setupLength, dealingLength, complaintLength, challengesLength, responseLength}
 use Rattle.records.specs.Refusals.{setupRefusal, sharesFrom, dealingRefusal, maskFits, complaintRefusal, challengesRefusal, responseRefusal}
-use Rattle.run.specs.declared.Run.{Run}
 use Rattle.protocol.specs.Transcript.{dealingAt, validShare, coefficient, keyAt, combinedAt, nonce, challengeAt, responseAt, passes}
 use Rattle.protocol.specs.Arrays.{base, cell}
 use Rattle.run.specs.Runs.{noSetup, noDealings, noComplaints, noResponses, noScalars, begun, fresh, wellFormed, stageOf, transcriptOf, qualOf, setsOf, phiOf, kept}

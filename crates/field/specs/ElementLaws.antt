@@ -2,11 +2,11 @@
 use mathlib.Core.Path.{_≡_, refl, sym, ap, ap₂, _∙_}
 use mathlib.Core.Logic.{_≢_}
 use mathlib.Core.Bool.{Bool, true, false, _&&_}
-use Prim.Native.Nat.{ℕ, zero, suc, _+_, _*_, _-_, _^_, _%_, _≤_, _<_}
+use Prim.Native.Nat.{ℕ, _+_, _*_, _-_, _^_, _%_, _<_}
 use native.Mathlib.Omega.{arith}
 use native.Mathlib.Nat.{mod-lt, mod-eq-of-lt, mul-comm, mul-zero, pow-suc, pos-of-ne-zero}
 use native.Mathlib.Numerals.{add-one}
-use lib.Dec.{lit<, ltb, eqb}
+use lib.Dec.{lit<, ltb}
 use lib.Pow as N
 use borrow.Author.Tests.{lt-ltb, ltb-true, eq-eqb, eqb-true}
 use Rattle.field.specs.declared.Scalar.{Scalar}
@@ -15,7 +15,7 @@ use Rattle.field.specs.Definitions.{q, P, scalar, element, generator, po
 use Rattle.field.specs.Congruence.{mul-mod, strip, same}
 use Rattle.field.specs.Powers as W
 use Rattle.field.specs.Order as O
-use Rattle.field.specs.ScalarLaws.{1<q, range, inverses, power-whole}
+use Rattle.field.specs.ScalarLaws.{range, inverses, power-whole}
 
 pub 1<P : 1 < P
 unfolding P

@@ -1,5 +1,5 @@
 -- The order of a number v modulo m: exponents count modulo it, and where it is prime the powers below it differ. Assumes nothing.
-use mathlib.Core.Path.{_≡_, refl, sym, ap, _∙_}
+use mathlib.Core.Path.{_≡_, sym, ap, _∙_}
 use mathlib.Core.Logic.{_≢_}
 use Prim.Native.Nat.{ℕ, _+_, _*_, _-_, _^_, _%_, _/_, _≤_, _<_}
 use native.Mathlib.Omega.{arith, by-contra}

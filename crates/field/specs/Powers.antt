@@ -1,9 +1,9 @@
 -- Powers of whole numbers and their remainders modulo m. Assumes nothing.
 use mathlib.Core.Path.{_≡_, sym, ap, ap₂, _∙_}
 use mathlib.Core.Logic.{_≢_}
-use Prim.Native.Nat.{ℕ, zero, suc, _+_, _*_, _^_, _%_, _/_, _≤_, _<_}
+use Prim.Native.Nat.{ℕ, zero, suc, _+_, _*_, _^_, _%_, _/_, _≤_}
 use native.Mathlib.Omega.{arith}
-use native.Mathlib.Nat.{pow-zero, pow-suc, mul-zero, mul-suc, mul-one, one-mul, mul-mul-mul-comm, le-refl, mod-lt, mod-eq-of-lt}
+use native.Mathlib.Nat.{pow-zero, pow-suc, mul-zero, mul-suc, mul-one, one-mul, mul-mul-mul-comm, le-refl}
 use lib.Pow.{pow-add}
 use lib.Arith.{half-le}
 use Rattle.field.specs.Congruence.{mul-mod, mod-mul-mod, mul-mod-mod}

@@ -3,9 +3,8 @@ use mathlib.Core.Path.{_≡_, refl, sym, ap, ap₂, fun-ext, _∙_}
 use mathlib.Core.Bool.{Bool, true, false}
 use Prim.Native.Nat.{ℕ, zero, suc, _+_, _-_, _≤_, _<_}
 use native.Mathlib.Omega.{arith}
-use Rattle.algebra.specs.Fold.{fold, fold-hom, fold-cong}
-use Rattle.algebra.specs.Poly.{Poly}
-use Rattle.algebra.specs.Exponents.{interp, interp-poly, PolyG, polyG-unit, polyG-op, polyG-cong, polyG-le, polyG-pow, polyG-big, exactG}
+use Rattle.algebra.specs.Fold.{fold}
+use Rattle.algebra.specs.Exponents.{interp, interp-poly, PolyG, polyG-unit, polyG-op, polyG-le, polyG-pow, exactG}
 use Rattle.lists.specs.Tests.{pick}
 use Rattle.field.specs.declared.Scalar.{Scalar}
 use Rattle.field.specs.declared.Element.{Element}
@@ -13,8 +12,8 @@ use Rattle.field.specs.Definitions.{scalar, element, IsElement, reduced, produc
 use Rattle.field.specs.ScalarLaws.{reduced-range}
 use Rattle.field.specs.ElementLaws.{raise-reduced}
 use Rattle.interpolation.specs.Definitions.{elementAt}
-use Rattle.interpolation.specs.Structures.{Residue, residue, Zq, inv, Member, member-path, Group, Powers}
-use Rattle.interpolation.specs.Laws.{DistinctPoints, residues, apart, member, member-val, elementAt-val, elementAt-element}
+use Rattle.interpolation.specs.Structures.{Residue, residue, inv, Member, member-path, Group, Powers}
+use Rattle.interpolation.specs.Laws.{DistinctPoints, residues, apart, member, member-val, elementAt-val}
 use Rattle.interpolation.specs.Polynomials.{Polynomial, polynomial-constant}
 
 -- h is a product of elements raised to polynomial functions with at most n coefficients

@@ -2,22 +2,22 @@
 use mathlib.Core.Path.{_≡_, refl, sym, ap, ap₂, subst, _∙_}
 use mathlib.Core.Logic.{_≢_}
 use mathlib.Core.Bool.{Bool, true, false}
-use Prim.Native.Nat.{ℕ, suc, _+_, _-_, _≤_, _<_}
+use Prim.Native.Nat.{ℕ, _+_, _-_, _≤_, _<_}
 use native.Mathlib.Omega.{arith}
 use native.Mathlib.Decide.{ℕ-discrete}
 use borrow.Author.Tests.{eq-eqb, ne-eqb}
-use Rattle.algebra.specs.Fold.{fold, fold-cong, fold-hom, fold-keeps}
+use Rattle.algebra.specs.Fold.{fold-cong, fold-hom}
 use Rattle.algebra.specs.Ring.{sub}
 use Rattle.algebra.specs.Poly.{Apart, apart-of-distinct}
 use Rattle.algebra.specs.Weights as A
 use Rattle.algebra.specs.Exponents.{interp, interp-at}
 use Rattle.field.specs.declared.Scalar.{Scalar}
 use Rattle.field.specs.declared.Element.{Element}
-use Rattle.field.specs.Definitions.{q, scalar, element, generator, isElement, IsScalar, IsElement, reduced, plus, minus, times, inverse, product, raise}
-use Rattle.field.specs.ScalarLaws.{0<q, 1<q, small<q, in-range, reduced-same, minus-range, plus-range, times-range, minus-plus, minus-reduced, times-reduced-left, times-comm, difference-same, difference-unique}
-use Rattle.field.specs.ElementLaws.{one-element, product-element, raise-element, raise-zero, raise-plus, raise-times}
+use Rattle.field.specs.Definitions.{q, scalar, element, isElement, IsScalar, IsElement, reduced, plus, minus, times, inverse, product, raise}
+use Rattle.field.specs.ScalarLaws.{small<q, reduced-same, minus-range, minus-plus, minus-reduced, times-reduced-left, times-comm, difference-same, difference-unique}
+use Rattle.field.specs.ElementLaws.{one-element, raise-zero, raise-plus, raise-times}
 use Rattle.interpolation.specs.Definitions.{point, party, slot, committedPoint, factor, weight, scalarAt, elementAt}
-use Rattle.interpolation.specs.Structures.{Residue, residue, residue-path, Zq, inv, inv-is, Member, member-path, Group, Powers}
+use Rattle.interpolation.specs.Structures.{Residue, residue, residue-path, Zq, inv, inv-is, Member, Group, Powers}
 
 -- ---- points
 

@@ -1,17 +1,16 @@
 -- Polynomial functions of scalars, and that interpolation is exact for them. Assumes nothing.
-use mathlib.Core.Path.{_≡_, refl, sym, ap, ap₂, _∙_}
+use mathlib.Core.Path.{_≡_, refl, sym, ap, _∙_}
 use mathlib.Core.List.{List, [], _∷_, map}
-use Prim.Native.Nat.{ℕ, _≤_, _<_}
-use native.Mathlib.Nat.{le-refl}
+use Prim.Native.Nat.{ℕ, _≤_}
 use native.Mathlib.Omega.{arith}
 use lib.ListN.{length, length-map}
 use Rattle.algebra.specs.Poly.{ev, Poly, poly-le, poly-const, poly-list}
 use Rattle.algebra.specs.Weights as A
 use Rattle.field.specs.declared.Scalar.{Scalar}
-use Rattle.field.specs.Definitions.{scalar, IsScalar, reduced, plus, times}
+use Rattle.field.specs.Definitions.{IsScalar, plus, times}
 use Rattle.field.specs.ScalarLaws.{plus-reduced-left, times-reduced-left}
 use Rattle.interpolation.specs.Definitions.{scalarAt, evaluate}
-use Rattle.interpolation.specs.Structures.{Residue, residue, residue-path, Zq, inv}
+use Rattle.interpolation.specs.Structures.{Residue, residue, Zq, inv}
 use Rattle.interpolation.specs.Laws.{DistinctPoints, residues, residue-of, apart, scalarAt-val}
 
 -- f is a polynomial function with at most n coefficients, of degree below n

@@ -1,9 +1,8 @@
 -- The scalars as a commutative ring and the elements as a group with scalars for exponents, from the laws of field alone. Assumes nothing.
-use mathlib.Core.Path.{_≡_, sym, ap, _∙_}
+use mathlib.Core.Path.{_≡_, sym}
 use mathlib.Core.Logic.{_≢_}
 use mathlib.Core.Bool.{true, Bool-set}
 use mathlib.Core.HLevel.{Σ-prop-path}
-use Prim.Native.Nat.{ℕ}
 use Rattle.algebra.specs.Fold.{CommMonoid}
 use Rattle.algebra.specs.Ring.{CommRing}
 use Rattle.algebra.specs.Exponents.{Exponents}

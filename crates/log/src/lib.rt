@@ -220,6 +220,7 @@ fn put_page(log: &[u8], out: &mut [u8]) -> usize
         let rest = &log[from..];
         let length = next_length(run, rest);
         let record = &rest[..length];
+        // by tag and stage first, which does not copy the run
         let mut number = run.untaken(record);
         if number == 0 {
             let reply = run.step(record);

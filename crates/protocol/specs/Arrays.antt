@@ -1,8 +1,8 @@
 -- The public values of a committee as a run keeps them: flat arrays, party i's values from (i - 1) × 32 on.
 use Prim.Native.Nat.{ℕ, zero, suc, _+_, _*_, _-_, _/_, _^_}
-use mathlib.Core.Bool.{Bool, not, _&&_}
+use mathlib.Core.Bool.{Bool}
 use mathlib.Core.List.{List}
-use lib.ListN.{length, getD}
+use lib.ListN.{getD}
 use Rattle.algebra.specs.Fold.{fold}
 use Rattle.lists.specs.Tests.{pick}
 use Rattle.lists.specs.Stores.{stored, filled}
@@ -11,7 +11,7 @@ use Rattle.field.specs.declared.Scalar.{Scalar}
 use Rattle.field.specs.declared.Element.{Element}
 use Rattle.field.specs.Definitions.{scalar, element, product, powered}
 use Rattle.interpolation.specs.declared.Row.{Row}
-use Rattle.interpolation.specs.Definitions.{party, slot, committedPoint, scalarAt, elementAt}
+use Rattle.interpolation.specs.Definitions.{party}
 use Rattle.interpolation.specs.Rows.{listed}
 
 -- where party i's values begin

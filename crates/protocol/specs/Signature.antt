@@ -2,14 +2,14 @@
 -- C_u(x) × S_x^E_u(x) is a product of elements raised to polynomials of degree below need, so it is interpolated exactly.
 use mathlib.Core.Path.{_≡_, refl, sym, ap, ap₂, subst, _∙_}
 use mathlib.Core.Logic.{_≢_}
-use mathlib.Core.Bool.{Bool, true, false}
+use mathlib.Core.Bool.{true}
 use Prim.Native.Nat.{ℕ, _+_, _-_, _^_, _≤_, _<_}
 use native.Mathlib.Omega.{arith}
 use Rattle.field.specs.declared.Scalar.{Scalar}
 use Rattle.field.specs.declared.Element.{Element}
 use Rattle.field.specs.Definitions.{generator, IsElement, product, raise}
 use Rattle.field.specs.ElementLaws.{generator-element, raise-reduced}
-use Rattle.interpolation.specs.Definitions.{party, slot, committedPoint, scalarAt, elementAt}
+use Rattle.interpolation.specs.Definitions.{party, slot, committedPoint, scalarAt}
 use Rattle.interpolation.specs.Laws.{committed-distinct, slots-distinct, parties-distinct, slot-committed, elementAt-point, scalarAt-reduced, raise-scalarAt}
 use Rattle.interpolation.specs.Polynomials.{polynomial-interpolated}
 use Rattle.interpolation.specs.Exponentials.{Exponential, exponential-wider, exponential-interpolated, exponential-product, exponential-raise, exponential-powered, exponential-pick, exponential-fold, exact-elements}

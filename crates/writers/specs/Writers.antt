@@ -1,7 +1,7 @@
 -- What an honest party's records are, and when a writer refuses (document 01, "The writers make ..").
 use Prim.Native.Nat.{ℕ, _+_, _-_}
 use mathlib.Core.Bool.{Bool, not, _&&_, _||_}
-use mathlib.Core.List.{List, [], _∷_, _++_}
+use mathlib.Core.List.{List, _∷_, _++_}
 use lib.ListN.{length, getD}
 use lib.Dec.{eqb}
 use Rattle.algebra.specs.Fold.{fold}

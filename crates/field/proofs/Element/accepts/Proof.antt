@@ -1,8 +1,8 @@
 -- `Element::accepts` meets its contract: each test settles one factor of the definition. Assumes nothing.
-use borrow.Author.Tests.{eq-eqb, le-ltb, lt-ltb}
+use borrow.Author.Tests.{le-ltb, lt-ltb}
 use native.Mathlib.Omega.{arith}
-use Prim.Native.Nat.{_≤_, _<_}
-use mathlib.Core.Path.{_≡_, ap}
+use Prim.Native.Nat.{_<_}
+use mathlib.Core.Path.{ap}
 use lib.Dec.{eqb}
 use Rattle.field.specs.Definitions.{P, q, isElement}
 use borrow.Author.Needs.{needs}
