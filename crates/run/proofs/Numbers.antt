@@ -1,10 +1,12 @@
 -- Refusals in a row. Assumes nothing.
-use mathlib.Core.Path.{_≡_, refl}
-use mathlib.Core.Bool.{Bool, true, false}
+use mathlib.Core.Path.{_≡_, refl, _∙_}
+use mathlib.Core.Bool.{Bool, true, false, not}
 use Prim.Native.Nat.{ℕ}
 use lib.Dec.{eqb}
 use borrow.Author.Tests.{eqb-true}
-use Rattle.lists.specs.Tests.{pick}
+use Rattle.lists.specs.Tests.{pick, require}
+use Rattle.lists.specs.Calls.{is, is-not}
+use Rattle.sets.specs.Masks.{has}
 use Rattle.run.specs.Steps.{orNext}
 
 -- none in the row: not the first
@@ -15,3 +17,14 @@ first-none k next = go (eqb k 0) refl
     go : (b : Bool) → eqb k 0 ≡ b → pick b next k ≡ 0 → k ≡ 0
     go true e h = eqb-true k 0 e
     go false e h = h
+
+-- the code asks first whether the record itself is refused, by k
+module _ {n k : ℕ} (first : n ≡ k) where
+  pub itself : (next : ℕ) → (n ≡ 0 → ⊥) → n ≡ orNext k next
+  unfolding orNext
+  itself next h = first ∙ rw (is-not first h)
+
+  -- then whether a set has the sender already
+  pub sent : {i j : ℕ} {b : Bool} (set rest : ℕ) → n ≡ 0 → i ≡ j → b ≡ has set i → require (not b) 12 rest ≡ orNext k (require (not (has set j)) 12 rest)
+  unfolding orNext
+  sent set rest none at asked = rw (is first none, ← at, ← asked)

@@ -3,8 +3,8 @@ use mathlib.Core.Path.{_≡_, refl, sym, ap, _∙_}
 use mathlib.Core.List.{List}
 use Prim.Native.Nat.{ℕ}
 use lib.Dec.{eqb}
-use borrow.Author.Tests.{eq-eqb, ne-eqb}
 use Rattle.lists.specs.Tests.{pick}
+use Rattle.lists.specs.Calls.{is, is-not}
 use Rattle.records.specs.Tags.{Tag, SU, DE, VE, CH, RE, unknown, code, tagOf}
 use Rattle.run.specs.declared.Run.{Run}
 use Rattle.run.specs.Runs.{stageOf}
@@ -13,7 +13,7 @@ use Rattle.run.specs.Steps.{refused, answered, taken, stepAt, stepOf}
 -- ---- tags
 
 -- the tag that a code stands for
-abbrev pub decoded : ℕ → Tag
+abbrev decoded : ℕ → Tag
 decoded k = pick (eqb k 1) SU (pick (eqb k 2) DE (pick (eqb k 3) VE (pick (eqb k 4) CH (pick (eqb k 5) RE unknown))))
 
 decoded-code : (t : Tag) → decoded (code t) ≡ t
@@ -25,9 +25,9 @@ decoded-code RE = refl
 decoded-code unknown = refl
 
 -- the tag of a record, from what the code answers
-pub step-tag : (r : Run) (s : List ℕ) {c : ℕ} → c ≡ code (tagOf s) → (k : ℕ) → c ≡ k → stepOf r s ≡ stepAt (decoded k) r s
+pub step-tag : (t : Tag) (r : Run) (s : List ℕ) {c : ℕ} → c ≡ code (tagOf s) → c ≡ code t → stepOf r s ≡ stepAt t r s
 unfolding stepOf
-step-tag r s e k d = ap (λ (t : Tag). stepAt t r s) (sym (decoded-code (tagOf s)) ∙ ap decoded (sym e ∙ d))
+step-tag t r s e d = ap (λ (t : Tag). stepAt t r s) (sym (decoded-code (tagOf s)) ∙ ap decoded (sym e ∙ d) ∙ decoded-code t)
 
 none-of : (t : Tag) → (code t ≡ 1 → ⊥) → (code t ≡ 2 → ⊥) → (code t ≡ 3 → ⊥) → (code t ≡ 4 → ⊥) → (code t ≡ 5 → ⊥) → t ≡ unknown
 none-of SU a b c d e = absurd (a refl)
@@ -48,8 +48,8 @@ step-unknown r s e a b c d f =
 module _ (g : ℕ) (r : Run) (k : ℕ) (next : Run) {stage : ℕ} (e : stage ≡ stageOf r) where
   pub taken-at : stage ≡ g → taken g r k next ≡ answered r k next
   unfolding taken
-  taken-at h = rw (eq-eqb (stageOf r) g (sym e ∙ h))
+  taken-at h = rw (is e h)
 
   pub taken-not : (stage ≡ g → ⊥) → taken g r k next ≡ refused r 11
   unfolding taken
-  taken-not h = rw (ne-eqb (stageOf r) g (λ x. h (e ∙ x)))
+  taken-not h = rw (is-not e h)

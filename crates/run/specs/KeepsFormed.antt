@@ -71,6 +71,21 @@ quorum-parties : {n t a : ℕ} → Bounds n t a → quorum t a ≤ n
 unfolding quorum
 quorum-parties b = omega arith
 
+-- past stage 3 only the responses still count
+regular-past : (r : Run) → 3 < r .stage → Bounds (r .setup .n) (r .setup .t) (r .setup .a)
+    → r .dealings .count ≤ r .setup .n → r .complaints .count ≤ r .setup .n → r .responses .count ≤ r .setup .n
+    → (r .stage ≡ 4 → r .responses .count < quorum (r .setup .t) (r .setup .a)) → Regular r
+regular-past r past bounds dealings complaints responses few =
+    record {
+      parties = bounds .n-max;
+      formed = λ p. record { bounds = bounds; dealings-max = dealings; complaints-max = complaints; responses-max = responses };
+      dealing = λ y. absurd (omega arith);
+      complaints-none = λ y. absurd (omega arith);
+      complaining = λ y. absurd (omega arith);
+      responses-none = λ y. absurd (omega arith);
+      responding = few;
+    }
+
 module _ (r : Run) (h : Regular r) where
   regular-dealing : (s : List ℕ) → r .stage ≡ 1 → Regular (afterDealing r s)
   unfolding afterDealing withDealing
@@ -115,58 +130,21 @@ module _ (r : Run) (h : Regular r) where
   regular-challenges s e =
       let f = h .formed (omega arith) in
       let silent = h .responses-none (omega arith) in
-      let bounds = f .bounds in
-      record {
-        parties = h .parties;
-        formed = λ p. record { bounds = bounds; dealings-max = f .dealings-max; complaints-max = f .complaints-max; responses-max = f .responses-max };
-        dealing = λ y. absurd (omega arith);
-        complaints-none = λ y. absurd (omega arith);
-        complaining = λ y. absurd (omega arith);
-        responses-none = λ y. absurd (omega arith);
-        responding = λ y. omega (arith, quorum-pos bounds);
-      }
+      regular-past _ (omega arith) (f .bounds) (f .dealings-max) (f .complaints-max) (f .responses-max) (λ y. omega (arith, quorum-pos (f .bounds)))
 
   regular-row : (s : List ℕ) → r .stage ≡ 4 → (r .responses .count + 1 ≡ quorum (r .setup .t) (r .setup .a) → ⊥) → Regular (withRow r s)
   unfolding withRow withResponse
   regular-row s e d =
       let f = h .formed (omega arith) in
       let few = h .responding e in
-      let bounds = f .bounds in
-      record {
-        parties = h .parties;
-        formed = λ p. record {
-          bounds = bounds;
-          dealings-max = f .dealings-max;
-          complaints-max = f .complaints-max;
-          responses-max = omega (arith, quorum-parties bounds);
-        };
-        dealing = λ y. absurd (omega arith);
-        complaints-none = λ y. absurd (omega arith);
-        complaining = λ y. absurd (omega arith);
-        responses-none = λ y. absurd (omega arith);
-        responding = λ y. omega arith;
-      }
+      regular-past _ (omega arith) (f .bounds) (f .dealings-max) (f .complaints-max) (omega (arith, quorum-parties (f .bounds))) (λ y. omega arith)
 
   regular-finished : (s : List ℕ) → r .stage ≡ 4 → Regular (finished (withRow r s))
   unfolding finished withRow withResponse
   regular-finished s e =
       let f = h .formed (omega arith) in
       let few = h .responding e in
-      let bounds = f .bounds in
-      record {
-        parties = h .parties;
-        formed = λ p. record {
-          bounds = bounds;
-          dealings-max = f .dealings-max;
-          complaints-max = f .complaints-max;
-          responses-max = omega (arith, quorum-parties bounds);
-        };
-        dealing = λ y. absurd (omega arith);
-        complaints-none = λ y. absurd (omega arith);
-        complaining = λ y. absurd (omega arith);
-        responses-none = λ y. absurd (omega arith);
-        responding = λ y. absurd (omega arith);
-      }
+      regular-past _ (omega arith) (f .bounds) (f .dealings-max) (f .complaints-max) (omega (arith, quorum-parties (f .bounds))) (λ y. absurd (omega arith))
 
   regular-response : (s : List ℕ) → r .stage ≡ 4 → Regular (afterResponse r s)
   unfolding afterResponse

@@ -1,8 +1,11 @@
 -- `Run::complaint_number` meets its contract: the code asks what the definition asks, in its order. Assumes nothing.
-use borrow.Author.Tests.{ne-eqb, not-true, not-false}
+use borrow.Author.Tests.{not-true, not-false}
 use borrow.Author.Needs.{needs}
-use Rattle.lists.specs.Tests.{require}
-use Rattle.run.specs.Steps.{orNext, complaintNumber}
+use mathlib.Core.Path.{_≡_, sym, ap, _∙_}
+use mathlib.Core.Bool.{not}
+use Rattle.lists.specs.Tests.{require, require-true, require-false}
+use Rattle.run.specs.Steps.{complaintNumber}
+use Rattle.run.proofs.Numbers.{itself, sent}
 use Rattle.run.proofs.Run.complaint_number.Statement.{statement}
 use Rattle.run.proofs.Run.complaint_number.Tie as tie
 
@@ -10,8 +13,8 @@ complaint-refusal-requires : tie.Need-complaint-refusal-requires
 complaint-refusal-requires c κs = search needs
 
 returns : tie.Need-returns
-unfolding complaintNumber orNext
-returns c = rw (← c .before .complaint-refusal .ensures, ne-eqb _ _ (c .if1 .taken))
+unfolding complaintNumber
+returns c = itself (c .before .complaint-refusal .ensures) _ (c .if1 .taken)
 
 byte-requires : tie.Need-byte-requires
 byte-requires c κs = search needs
@@ -20,16 +23,12 @@ has-requires : tie.Need-has-requires
 has-requires c κs = search needs
 
 returns-2 : tie.Need-returns-2
-unfolding complaintNumber orNext require
+unfolding complaintNumber
 returns-2 c =
-    let passed = c .before .before .before in
-    rw (
-      ← passed .before .complaint-refusal .ensures,
-      passed .if1 .left,
-      ← c .before .before .byte .ensures,
-      ← c .before .has .ensures,
-      c .if2 .taken,
-    )
+    let asked = c .before in
+    let passed = asked .before .before in
+    sym (require-false _ 12 _ (ap not (c .if2 .taken)))
+    ∙ sent (passed .before .complaint-refusal .ensures) _ _ (passed .if1 .left) (asked .before .byte .ensures) (asked .has .ensures)
 
 number-requires : tie.Need-number-requires
 number-requires c κs = search needs
@@ -37,39 +36,24 @@ number-requires c κs = search needs
 blames-rightly-requires : tie.Need-blames-rightly-requires
 blames-rightly-requires c κs = search needs
 
-returns-3 : tie.Need-returns-3
-unfolding complaintNumber orNext require
-returns-3 c =
-    let mask = c .before .before in
-    let first = mask .before .before in
+-- what is left of the number
+left : (c : tie.After-blames-rightly) → let a = c .before .before .before .before .before .before .before .before .before .args in
+    require (c .blames-rightly .result) 13 0 ≡ complaintNumber (a .self) (a .bytes .now)
+unfolding complaintNumber
+left c =
+    let first = c .before .before .before in
+    let byte = first .before .before .byte .ensures in
     let passed = first .before .before .before in
-    rw (
-      ← passed .before .complaint-refusal .ensures,
-      passed .if1 .left,
-      ← first .before .before .byte .ensures,
-      ← first .before .has .ensures,
-      first .if2 .left,
-      ← mask .number .ensures,
-      ← c .before .blames-rightly .ensures,
-      not-true (c .before .blames-rightly .result) (c .if3 .taken),
-    )
+    rw (c .blames-rightly .ensures, c .before .number .ensures, byte)
+    (sym (require-true _ 12 _ (ap not (first .if2 .left))) ∙ sent (passed .before .complaint-refusal .ensures) _ _ (passed .if1 .left) byte (first .before .has .ensures))
+
+returns-3 : tie.Need-returns-3
+unfolding require
+returns-3 c = rw (not-true (c .before .blames-rightly .result) (c .if3 .taken)) at (left (c .before))
 
 returns-4 : tie.Need-returns-4
-unfolding complaintNumber orNext require
-returns-4 c =
-    let mask = c .before .before in
-    let first = mask .before .before in
-    let passed = first .before .before .before in
-    rw (
-      ← passed .before .complaint-refusal .ensures,
-      passed .if1 .left,
-      ← first .before .before .byte .ensures,
-      ← first .before .has .ensures,
-      first .if2 .left,
-      ← mask .number .ensures,
-      ← c .before .blames-rightly .ensures,
-      not-false (c .before .blames-rightly .result) (c .if3 .left),
-    )
+unfolding require
+returns-4 c = rw (not-false (c .before .blames-rightly .result) (c .if3 .left)) at (left (c .before))
 
 pub complaint-number-spec : {M : Type 1} → statement M
 complaint-number-spec =

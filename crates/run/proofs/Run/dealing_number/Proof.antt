@@ -1,8 +1,10 @@
 -- `Run::dealing_number` meets its contract: the code asks what the definition asks, in its order. Assumes nothing.
-use borrow.Author.Tests.{ne-eqb}
 use borrow.Author.Needs.{needs}
+use mathlib.Core.Path.{_≡_}
+use mathlib.Core.Bool.{not}
 use Rattle.lists.specs.Tests.{require}
-use Rattle.run.specs.Steps.{orNext, dealingNumber}
+use Rattle.run.specs.Steps.{dealingNumber}
+use Rattle.run.proofs.Numbers.{itself, sent}
 use Rattle.run.proofs.Run.dealing_number.Statement.{statement}
 use Rattle.run.proofs.Run.dealing_number.Tie as tie
 
@@ -10,8 +12,8 @@ dealing-refusal-requires : tie.Need-dealing-refusal-requires
 dealing-refusal-requires c κs = search needs
 
 returns : tie.Need-returns
-unfolding dealingNumber orNext
-returns c = rw (← c .before .dealing-refusal .ensures, ne-eqb _ _ (c .if1 .taken))
+unfolding dealingNumber
+returns c = itself (c .before .dealing-refusal .ensures) _ (c .if1 .taken)
 
 byte-requires : tie.Need-byte-requires
 byte-requires c κs = search needs
@@ -19,29 +21,20 @@ byte-requires c κs = search needs
 has-requires : tie.Need-has-requires
 has-requires c κs = search needs
 
+-- what is left of the number
+left : (c : tie.After-has) → let a = c .before .before .before .before .before .args in require (not (c .has .result)) 12 0 ≡ dealingNumber (a .self) (a .bytes .now)
+unfolding dealingNumber
+left c =
+    let passed = c .before .before in
+    sent (passed .before .dealing-refusal .ensures) _ _ (passed .if1 .left) (c .before .byte .ensures) (c .has .ensures)
+
 returns-2 : tie.Need-returns-2
-unfolding dealingNumber orNext require
-returns-2 c =
-    let passed = c .before .before .before in
-    rw (
-      ← passed .before .dealing-refusal .ensures,
-      passed .if1 .left,
-      ← c .before .before .byte .ensures,
-      ← c .before .has .ensures,
-      c .if2 .taken,
-    )
+unfolding require
+returns-2 c = rw (c .if2 .taken) at (left (c .before))
 
 returns-3 : tie.Need-returns-3
-unfolding dealingNumber orNext require
-returns-3 c =
-    let passed = c .before .before .before in
-    rw (
-      ← passed .before .dealing-refusal .ensures,
-      passed .if1 .left,
-      ← c .before .before .byte .ensures,
-      ← c .before .has .ensures,
-      c .if2 .left,
-    )
+unfolding require
+returns-3 c = rw (c .if2 .left) at (left (c .before))
 
 pub dealing-number-spec : {M : Type 1} → statement M
 dealing-number-spec =

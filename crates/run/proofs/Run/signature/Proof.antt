@@ -1,14 +1,14 @@
 -- `Run::signature` meets its contract: the number that is kept at the place of (u,k), which is among the 512. Assumes nothing.
 use borrow.Author.Needs.{needs}
-use borrow.Author.Tests.{leb-true}
+use borrow.Author.Tests.{leb-true, eq-eqb}
 use native.Mathlib.Omega.{arith}
 use native.Mathlib.Nat.{mul-comm}
 use Prim.Native.Nat.{ℕ, _+_, _*_, _-_, _≤_, _<_}
 use mathlib.Core.Path.{_≡_, refl, sym, _∙_}
-use mathlib.Core.Bool.{true, and-eq-true-iff}
+use mathlib.Core.Bool.{true, false, and-eq-true-iff}
 use lib.Arith.{digits-lt}
-use lib.Dec.{leb}
-use Rattle.lists.specs.Calls.{holds, fails, is, is-not}
+use lib.Dec.{eqb}
+use Rattle.lists.specs.Calls.{holds, fails, is-not}
 use Rattle.records.specs.Parameters.{batch}
 use Rattle.records.specs.Laws.{cells-max}
 use Rattle.protocol.specs.Arrays.{cell}
@@ -40,21 +40,24 @@ stage-of-requires c κs = search needs
 
 returns : tie.Need-returns
 unfolding signatureOf
-returns c = rw (is-not (c .before .stage-of .ensures) (c .if1 .taken))
+returns c =
+    let early : eqb (stageOf (c .before .before .args .self)) 5 ≡ false = is-not (c .before .stage-of .ensures) (c .if1 .taken) in
+    rw early
+
+-- past the first test the run is at stage 5
+done : (c : tie.Else1) → stageOf (c .before .before .args .self) ≡ 5
+done c = sym (c .before .stage-of .ensures) ∙ c .if1 .left
 
 in-batch-requires : tie.Need-in-batch-requires
 in-batch-requires c κs = search needs
 
 returns-2 : tie.Need-returns-2
 unfolding signatureOf
-returns-2 c =
-    rw (is (c .before .before .before .stage-of .ensures) (c .before .before .if1 .left), fails (c .before .in-batch .ensures) (c .if2 .taken))
+returns-2 c = rw (eq-eqb _ _ (done (c .before .before)), fails (c .before .in-batch .ensures) (c .if2 .taken))
 
 here : (c : tie.Else2) → let a = c .before .before .before .before .args in
     (1 ≤ a .u) × (1 ≤ a .k) × ((a .u - 1) * a .self .setup .a + (a .k - 1) < 512)
-here c =
-    let stage = c .before .before .before in
-    placed _ _ _ (sym (stage .stage-of .ensures) ∙ c .before .before .if1 .left) (holds (c .before .in-batch .ensures) (c .if2 .left))
+here c = placed _ _ _ (done (c .before .before)) (holds (c .before .in-batch .ensures) (c .if2 .left))
 
 sub-at : tie.Need-sub-at
 sub-at c = here c .0
@@ -87,7 +90,7 @@ returns-3 : tie.Need-returns-3
 unfolding signatureOf kept cell
 returns-3 c =
     let e = c .before .before .before in
-    rw (is (e .before .before .before .stage-of .ensures) (e .before .before .if1 .left), holds (e .before .in-batch .ensures) (e .if2 .left)) refl
+    rw (eq-eqb _ _ (done (e .before .before)), holds (e .before .in-batch .ensures) (e .if2 .left)) refl
 
 pub signature-spec : {M : Type 1} → statement M
 signature-spec =
