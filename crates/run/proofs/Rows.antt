@@ -7,9 +7,8 @@ use native.Mathlib.Omega.{arith}
 use lib.Dec.{eqb}
 use Rattle.algebra.specs.Fold.{fold-cong}
 use Rattle.lists.specs.Tests.{pick, allTo, all-cong}
-use Rattle.sets.specs.Masks.{has, count}
+use Rattle.sets.specs.Masks.{has}
 use Rattle.sets.specs.MaskLaws.{has-minus}
-use Rattle.sets.specs.MemberLaws.{count-le}
 use Rattle.field.specs.declared.Scalar.{Scalar}
 use Rattle.field.specs.declared.Element.{Element}
 use Rattle.field.specs.Definitions.{scalar, element, generator, product, raise, powered}

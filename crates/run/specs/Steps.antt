@@ -1,6 +1,6 @@
 -- What a record does to a run (document 01, "The run", "From the input", "From the state").
 use Prim.Native.Nat.{ℕ, _+_, _*_, _-_, _/_, _%_}
-use mathlib.Core.Bool.{Bool, true, false, not, _&&_, _||_}
+use mathlib.Core.Bool.{Bool, not, _&&_, _||_}
 use mathlib.Core.List.{List, [], _∷_}
 use lib.ListN.{getD, set}
 use lib.Bits.{bitOr}
@@ -8,7 +8,6 @@ use lib.Dec.{eqb, ltb}
 use Rattle.lists.specs.Tests.{pick, allTo, require}
 use Rattle.lists.specs.Stores.{stored}
 use Rattle.sets.specs.Masks.{has, insert, maskOf, count}
-use Rattle.field.specs.declared.Element.{Element}
 use Rattle.field.specs.Definitions.{scalar, element}
 use Rattle.records.specs.Parameters.{quorum, batch}
 use Rattle.records.specs.Bytes.{byteAt, numberAt, word, sender}

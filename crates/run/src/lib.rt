@@ -1,8 +1,7 @@
 // The run: what it keeps, and what a record does to it.
 ghost use mathlib.Core.Path.{_≡_};
 ghost use mathlib.Core.Bool.{true, not, _||_};
-ghost use Prim.Native.Nat.{ℕ, _+_, _-_, _*_, _≤_, _<_};
-ghost use lib.ListN.{getD};
+ghost use Prim.Native.Nat.{_+_, _-_, _*_, _≤_, _<_};
 ghost use Rattle.lists.specs.Tests.{allTo};
 ghost use Rattle.lists.specs.Stores.{stored, filled};
 ghost use Rattle.sets.specs.Masks.{has};
@@ -13,8 +12,8 @@ ghost use Rattle.records.specs.Refusals.{setupRefusal};
 ghost use Rattle.protocol.specs.Transcript.{combinedAt, passes};
 ghost use Rattle.interpolation.specs.Rows.{basisOf};
 ghost use Rattle.protocol.specs.Arrays.{elements, memberPoints};
-ghost use Rattle.run.specs.Runs.{fresh, begun, wellFormed, stageOf, transcriptOf, qualOf, setsOf, keyOf, phiOf, kept};
-ghost use Rattle.run.specs.Steps.{refused, answered, setupOf, afterSetup, dealingNumber, wrongShares, withDealing, afterDealing, mayBlame, complaintNumber, withComplaint, complaintStage, afterComplaint, challengesNumber, afterChallenges, responseNumber, withResponse, withRow, finished, afterResponse, stepOf, untaken};
+ghost use Rattle.run.specs.Runs.{fresh, begun, wellFormed, stageOf, transcriptOf, qualOf, setsOf, keyOf, phiOf};
+ghost use Rattle.run.specs.Steps.{refused, answered, setupOf, afterSetup, dealingNumber, wrongShares, withDealing, afterDealing, mayBlame, complaintNumber, withComplaint, complaintStage, afterComplaint, challengesNumber, afterChallenges, responseNumber, withResponse, finished, afterResponse, stepOf, untaken};
 ghost use Rattle.run.specs.Answers.{inBatch, nonceOf, signatureOf};
 use field::Element;
 use field::Scalar;

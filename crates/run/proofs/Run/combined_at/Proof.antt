@@ -1,12 +1,10 @@
 -- `Run::combined_at` meets its contract: the values combined for u, interpolated at x. Assumes nothing.
 use native.Mathlib.Omega.{arith}
 use Prim.Native.Nat.{ℕ, _≤_}
-use mathlib.Core.Path.{_≡_, refl, sym, ap, ap₂, fun-ext, _∙_}
+use mathlib.Core.Path.{refl, sym, ap, ap₂, fun-ext, _∙_}
 use mathlib.Core.Bool.{Bool}
-use mathlib.Core.List.{List}
 use Rattle.sets.specs.Masks.{has}
 use Rattle.sets.specs.MaskLaws.{has-minus}
-use Rattle.field.specs.declared.Element.{Element}
 use Rattle.interpolation.specs.declared.Row.{Row}
 use Rattle.interpolation.specs.Definitions.{committedPoint, elementAt}
 use Rattle.interpolation.specs.Rows.{listed, weightsOf, productOf}

@@ -1,7 +1,7 @@
 -- `Run::in_batch` meets its contract: each test settles one factor of the definition. Assumes nothing.
 use native.Mathlib.Omega.{arith}
 use borrow.Author.Tests.{le-leb, lt-leb}
-use Prim.Native.Nat.{ℕ, _≤_, _<_}
+use Prim.Native.Nat.{_≤_, _<_}
 use mathlib.Core.Path.{refl}
 use Rattle.records.specs.Parameters.{batch}
 use Rattle.run.specs.Answers.{inBatch}

@@ -2,16 +2,14 @@
 use native.Mathlib.Omega.{arith}
 use borrow.Author.Tests.{le-leb, lt-leb}
 use Rattle.lists.specs.Calls.{holds, fails}
-use Prim.Native.Nat.{ℕ, _≤_, _<_}
+use Prim.Native.Nat.{_≤_, _<_}
 use mathlib.Core.Path.{refl, ap, _∙_}
-use Rattle.interpolation.specs.Definitions.{slot}
 use Rattle.protocol.specs.Transcript.{nonce, combinedAt}
-use Rattle.field.specs.declared.Scalar.{Scalar}
 use Rattle.run.specs.declared.Nonce.{Nonce}
 use Rattle.run.specs.declared.Nonce.the-variants as N
 use Rattle.run.specs.Runs.{stageOf, transcriptOf}
 use Rattle.run.specs.RunLaws.{stage-live}
-use Rattle.run.specs.Answers.{inBatch, nonceOf}
+use Rattle.run.specs.Answers.{nonceOf}
 use borrow.Author.Needs.{needs}
 use Rattle.run.proofs.Run.nonce.Statement.{statement}
 use Rattle.run.proofs.Run.nonce.Tie as tie

@@ -2,8 +2,7 @@
 use borrow.Author.Needs.{needs}
 use borrow.Author.Tests.{eq-eqb, ne-eqb}
 use native.Mathlib.Omega.{arith}
-use mathlib.Core.Path.{_≡_, ap, sym, _∙_}
-use Prim.Native.Nat.{_+_}
+use mathlib.Core.Path.{ap, sym, _∙_}
 use Rattle.records.specs.Parameters.{quorum}
 use Rattle.records.specs.Laws.{quorum-is}
 use Rattle.run.specs.declared.Responses.{Responses}
