@@ -1,9 +1,12 @@
--- A test that code asks of a call's result, as a fact of what the call ensures. Assumes nothing.
-use mathlib.Core.Path.{_≡_, sym, _∙_}
+-- A test that code asks of a call's result, as a fact of what the call ensures; and a loop that asks it of the numbers below n.
+-- Assumes nothing.
+use mathlib.Core.Path.{_≡_, refl, sym, _∙_}
 use mathlib.Core.Bool.{Bool, true, false, not}
-use Prim.Native.Nat.{ℕ}
+use Prim.Native.Nat.{ℕ, _+_, _≤_, _<_}
+use native.Mathlib.Omega.{arith}
 use lib.Dec.{eqb}
 use borrow.Author.Tests.{eq-eqb, ne-eqb, not-true, not-false}
+use Rattle.lists.specs.Tests.{allTo, all-more, one-fails}
 
 -- the code negates a call that answers by a truth value
 pub holds : {r b : Bool} → r ≡ b → not r ≡ false → b ≡ true
@@ -25,3 +28,22 @@ is {r} {y} {k} e h = eq-eqb y k (sym e ∙ h)
 
 pub is-not : {r y k : ℕ} → r ≡ y → (r ≡ k → ⊥) → eqb y k ≡ false
 is-not {r} {y} {k} e h = ne-eqb y k (λ p. h (e ∙ p))
+
+-- ---- a loop that asks f of each number below n, by a call, and stops at one that fails
+
+-- those below i have passed
+abbrev pub Asked : (ℕ → Bool) → ℕ → ℕ → Type 0
+Asked f n i = (i ≤ n) × (allTo i f ≡ true)
+
+pub asked-none : (f : ℕ → Bool) (n : ℕ) → Asked f n 0
+unfolding allTo
+asked-none f n = (omega arith, refl)
+
+pub asked-more : {r : Bool} (f : ℕ → Bool) (n i : ℕ) → Asked f n i → r ≡ f i → not r ≡ false → i < n → Asked f n (i + 1)
+asked-more f n i p e h l = (omega arith, all-more f i (p .1) (holds e h))
+
+pub asked-fails : {r : Bool} (f : ℕ → Bool) (n i : ℕ) → r ≡ f i → not r ≡ true → i < n → false ≡ allTo n f
+asked-fails f n i e h l = sym (one-fails f i n l (fails e h))
+
+pub asked-all : (f : ℕ → Bool) (n i : ℕ) → Asked f n i → n ≤ i → true ≡ allTo n f
+asked-all f n i p l = let end : i ≡ n = omega arith in sym (rw end at (p .1))

@@ -1,7 +1,7 @@
 -- Tests that compute: a choice, a test over the numbers below n, a refusal unless a test passes; and their laws.
 -- Assumes nothing.
 use mathlib.Core.Path.{_≡_, refl, sym, ap, ap₂, _∙_}
-use mathlib.Core.Bool.{Bool, true, false, _&&_, true≢false, and-eq-true-iff}
+use mathlib.Core.Bool.{Bool, true, false, _&&_, true≢false, and-false, and-eq-true-iff}
 use Prim.Native.Nat.{ℕ, zero, suc, _+_, _≤_, _<_}
 use native.Mathlib.Omega.{arith}
 use native.Mathlib.Numerals.{add-one}
@@ -81,6 +81,14 @@ fails-stays f m n l e = go (allTo n f) refl
     go true a = absurd (no-both (all-make m f (λ i h. all-at n f a i (omega arith))) e)
     go false a = refl
 
+-- one number more passes
+pub all-more : (f : ℕ → Bool) (i : ℕ) → allTo i f ≡ true → f i ≡ true → allTo (i + 1) f ≡ true
+all-more f i h e = all-next i f ∙ rw (h, e)
+
+-- one number fails
+pub one-fails : (f : ℕ → Bool) (i n : ℕ) → i < n → f i ≡ false → allTo n f ≡ false
+one-fails f i n l e = fails-stays f (i + 1) n (omega arith) (all-next i f ∙ rw (e, and-false))
+
 -- ---- refusals
 
 pub require-true : (b : Bool) (k x : ℕ) → b ≡ true → require b k x ≡ x
@@ -93,6 +101,16 @@ require-false b k x e = rw e
 
 pub require-pass : (b : Bool) (k x : ℕ) → b ≡ true → x ≡ 0 → require b k x ≡ 0
 require-pass b k x e z = require-true b k x e ∙ z
+
+-- a refusal r that asks a test first: what is left of it once the test has passed, and its number where the test fails
+abbrev pub Left : {r : ℕ} (b : Bool) (k x : ℕ) → r ≡ require b k x → Type 0
+Left {r} b k x e = r ≡ x
+
+pub left : {r : ℕ} (b : Bool) (k x : ℕ) (e : r ≡ require b k x) → b ≡ true → Left b k x e
+left b k x e h = e ∙ require-true b k x h
+
+pub refused : {r : ℕ} (b : Bool) (k x : ℕ) → r ≡ require b k x → b ≡ false → k ≡ r
+refused b k x e h = sym (e ∙ require-false b k x h)
 
 -- nothing refused: the test passed, and so did the rest
 pub passed : (b : Bool) (k x : ℕ) → require b k x ≡ 0 → 0 < k → (b ≡ true) × (x ≡ 0)

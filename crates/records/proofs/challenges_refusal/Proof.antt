@@ -1,7 +1,9 @@
 -- `challenges_refusal` meets its contract: the code asks what the definition asks, in its order. Assumes nothing.
+use mathlib.Core.Path.{refl, sym}
+use mathlib.Core.Bool.{and-false}
 use borrow.Author.Needs.{needs}
 use native.Mathlib.Omega.{arith}
-use Rattle.lists.specs.Tests.{require}
+use Rattle.lists.specs.Tests.{Left, left, refused}
 use Rattle.records.specs.Refusals.{challengesRefusal}
 use Rattle.lists.specs.Calls.{holds, fails, equals, differs, is, is-not}
 use Rattle.records.proofs.Products.{byte-product}
@@ -12,34 +14,34 @@ challenges-length-requires : tie.Need-challenges-length-requires
 challenges-length-requires c κs = search needs
 
 returns : tie.Need-returns
-unfolding challengesRefusal require
-returns c = rw (differs (c .before .challenges-length .ensures) (c .if1 .taken))
+unfolding challengesRefusal
+returns c = refused _ _ _ refl (differs (c .before .challenges-length .ensures) (c .if1 .taken))
+
+-- what is left of the refusal once the length is right; the lemmas like it below go on from the one before
+long : (c : tie.Else1) → unfold challengesRefusal in
+    (let a = c .before .before .before .args in Left {r = challengesRefusal (a .n) (a .t) (a .a) (a .s .now)} _ _ _ refl)
+unfolding challengesRefusal
+long c = left _ _ _ refl (equals (c .before .challenges-length .ensures) (c .if1 .left))
 
 byte-requires : tie.Need-byte-requires
 byte-requires c κs = search needs
 
 returns-2 : tie.Need-returns-2
-unfolding challengesRefusal require
-returns-2 c =
-    let long = c .before .before in
-    rw (
-      equals (long .before .challenges-length .ensures) (long .if1 .left),
-      is-not (c .before .byte .ensures) (c .if2 .taken),
-    )
+unfolding challengesRefusal
+returns-2 c = refused _ _ _ (long (c .before .before)) (rw (is-not (c .before .byte .ensures) (c .if2 .taken)))
 
 byte-requires-2 : tie.Need-byte-requires-2
 byte-requires-2 c κs = search needs
 
 returns-3 : tie.Need-returns-3
-unfolding challengesRefusal require
-returns-3 c =
+unfolding challengesRefusal
+returns-3 c = refused _ _ _ (long (c .before .before .before .before)) (rw (is-not (c .before .byte2 .ensures) (c .if3 .taken), and-false))
+
+reserved : (c : tie.Else3) → unfold challengesRefusal in (Left _ _ _ (long (c .before .before .before .before)))
+unfolding challengesRefusal
+reserved c =
     let first = c .before .before in
-    let long = first .before .before in
-    rw (
-      equals (long .before .challenges-length .ensures) (long .if1 .left),
-      is (first .before .byte .ensures) (first .if2 .left),
-      is-not (c .before .byte2 .ensures) (c .if3 .taken),
-    )
+    left _ _ _ (long (first .before .before)) (rw (is (first .before .byte .ensures) (first .if2 .left), is (c .before .byte2 .ensures) (c .if3 .left)))
 
 batch-requires : tie.Need-batch-requires
 batch-requires c κs = search needs
@@ -56,32 +58,16 @@ all-scalars-requires : tie.Need-all-scalars-requires
 all-scalars-requires c κs = search needs
 
 returns-4 : tie.Need-returns-4
-unfolding challengesRefusal require
+unfolding challengesRefusal
 returns-4 c =
-    let second = c .before .before .before in
-    let first = second .before .before in
-    let long = first .before .before in
-    rw (
-      equals (long .before .challenges-length .ensures) (long .if1 .left),
-      is (first .before .byte .ensures) (first .if2 .left),
-      is (second .before .byte2 .ensures) (second .if3 .left),
-      ← c .before .before .batch .ensures,
-      fails (c .before .all-scalars .ensures) (c .if4 .taken),
-    )
+    let here = rw (c .before .before .batch .ensures) at (c .before .all-scalars .ensures) in
+    refused _ _ _ (reserved (c .before .before .before)) (fails here (c .if4 .taken))
 
 returns-5 : tie.Need-returns-5
-unfolding challengesRefusal require
+unfolding challengesRefusal
 returns-5 c =
-    let second = c .before .before .before in
-    let first = second .before .before in
-    let long = first .before .before in
-    rw (
-      equals (long .before .challenges-length .ensures) (long .if1 .left),
-      is (first .before .byte .ensures) (first .if2 .left),
-      is (second .before .byte2 .ensures) (second .if3 .left),
-      ← c .before .before .batch .ensures,
-      holds (c .before .all-scalars .ensures) (c .if4 .left),
-    )
+    let here = rw (c .before .before .batch .ensures) at (c .before .all-scalars .ensures) in
+    sym (left _ _ _ (reserved (c .before .before .before)) (holds here (c .if4 .left)))
 
 pub challenges-refusal-spec : {M : Type 1} → statement M
 challenges-refusal-spec =

@@ -1,6 +1,7 @@
 -- `complaint_refusal` meets its contract: the code asks what the definition asks, in its order. Assumes nothing.
+use mathlib.Core.Path.{refl, sym}
 use borrow.Author.Needs.{needs}
-use Rattle.lists.specs.Tests.{require}
+use Rattle.lists.specs.Tests.{Left, left, refused}
 use Rattle.records.specs.Refusals.{complaintRefusal}
 use Rattle.lists.specs.Calls.{holds, fails, equals, differs, is, is-not}
 use Rattle.records.proofs.complaint_refusal.Statement.{statement}
@@ -10,20 +11,24 @@ complaint-length-requires : tie.Need-complaint-length-requires
 complaint-length-requires c κs = search needs
 
 returns : tie.Need-returns
-unfolding complaintRefusal require
-returns c = rw (differs (c .before .complaint-length .ensures) (c .if1 .taken))
+unfolding complaintRefusal
+returns c = refused _ _ _ refl (differs (c .before .complaint-length .ensures) (c .if1 .taken))
+
+-- what is left of the refusal once the length is right; the lemmas like it below go on from the one before
+long : (c : tie.Else1) → unfold complaintRefusal in (let a = c .before .before .before .args in Left {r = complaintRefusal (a .n) (a .s .now)} _ _ _ refl)
+unfolding complaintRefusal
+long c = left _ _ _ refl (equals (c .before .complaint-length .ensures) (c .if1 .left))
 
 byte-requires : tie.Need-byte-requires
 byte-requires c κs = search needs
 
 returns-2 : tie.Need-returns-2
-unfolding complaintRefusal require
-returns-2 c =
-    let long = c .before .before in
-    rw (
-      equals (long .before .complaint-length .ensures) (long .if1 .left),
-      is-not (c .before .byte .ensures) (c .if2 .taken),
-    )
+unfolding complaintRefusal
+returns-2 c = refused _ _ _ (long (c .before .before)) (is-not (c .before .byte .ensures) (c .if2 .taken))
+
+reserved : (c : tie.Else2) → unfold complaintRefusal in (Left _ _ _ (long (c .before .before)))
+unfolding complaintRefusal
+reserved c = left _ _ _ (long (c .before .before)) (is (c .before .byte .ensures) (c .if2 .left))
 
 byte-requires-2 : tie.Need-byte-requires-2
 byte-requires-2 c κs = search needs
@@ -32,16 +37,16 @@ is-party-requires : tie.Need-is-party-requires
 is-party-requires c κs = search needs
 
 returns-3 : tie.Need-returns-3
-unfolding complaintRefusal require
+unfolding complaintRefusal
 returns-3 c =
-    let reserved = c .before .before .before in
-    let long = reserved .before .before in
-    rw (
-      equals (long .before .complaint-length .ensures) (long .if1 .left),
-      is (reserved .before .byte .ensures) (reserved .if2 .left),
-      ← c .before .before .byte2 .ensures,
-      fails (c .before .is-party .ensures) (c .if3 .taken),
-    )
+    let here = rw (c .before .before .byte2 .ensures) at (c .before .is-party .ensures) in
+    refused _ _ _ (reserved (c .before .before .before)) (fails here (c .if3 .taken))
+
+party : (c : tie.Else3) → unfold complaintRefusal in (Left _ _ _ (reserved (c .before .before .before)))
+unfolding complaintRefusal
+party c =
+    let here = rw (c .before .before .byte2 .ensures) at (c .before .is-party .ensures) in
+    left _ _ _ (reserved (c .before .before .before)) (holds here (c .if3 .left))
 
 number-requires : tie.Need-number-requires
 number-requires c κs = search needs
@@ -50,34 +55,16 @@ mask-fits-requires : tie.Need-mask-fits-requires
 mask-fits-requires c κs = search needs
 
 returns-4 : tie.Need-returns-4
-unfolding complaintRefusal require
+unfolding complaintRefusal
 returns-4 c =
-    let party = c .before .before .before in
-    let reserved = party .before .before .before in
-    let long = reserved .before .before in
-    rw (
-      equals (long .before .complaint-length .ensures) (long .if1 .left),
-      is (reserved .before .byte .ensures) (reserved .if2 .left),
-      ← party .before .before .byte2 .ensures,
-      holds (party .before .is-party .ensures) (party .if3 .left),
-      ← c .before .before .number .ensures,
-      fails (c .before .mask-fits .ensures) (c .if4 .taken),
-    )
+    let here = rw (c .before .before .number .ensures) at (c .before .mask-fits .ensures) in
+    refused _ _ _ (party (c .before .before .before)) (fails here (c .if4 .taken))
 
 returns-5 : tie.Need-returns-5
-unfolding complaintRefusal require
+unfolding complaintRefusal
 returns-5 c =
-    let party = c .before .before .before in
-    let reserved = party .before .before .before in
-    let long = reserved .before .before in
-    rw (
-      equals (long .before .complaint-length .ensures) (long .if1 .left),
-      is (reserved .before .byte .ensures) (reserved .if2 .left),
-      ← party .before .before .byte2 .ensures,
-      holds (party .before .is-party .ensures) (party .if3 .left),
-      ← c .before .before .number .ensures,
-      holds (c .before .mask-fits .ensures) (c .if4 .left),
-    )
+    let here = rw (c .before .before .number .ensures) at (c .before .mask-fits .ensures) in
+    sym (left _ _ _ (party (c .before .before .before)) (holds here (c .if4 .left)))
 
 pub complaint-refusal-spec : {M : Type 1} → statement M
 complaint-refusal-spec =

@@ -1,6 +1,7 @@
 -- `dealing_refusal` meets its contract: the code asks what the definition asks, in its order. Assumes nothing.
+use mathlib.Core.Path.{refl, sym}
 use borrow.Author.Needs.{needs}
-use Rattle.lists.specs.Tests.{require}
+use Rattle.lists.specs.Tests.{Left, left, refused}
 use Rattle.records.specs.Refusals.{dealingRefusal}
 use Rattle.lists.specs.Calls.{holds, fails, equals, differs, is, is-not}
 use Rattle.records.proofs.dealing_refusal.Statement.{statement}
@@ -10,20 +11,25 @@ dealing-length-requires : tie.Need-dealing-length-requires
 dealing-length-requires c κs = search needs
 
 returns : tie.Need-returns
-unfolding dealingRefusal require
-returns c = rw (differs (c .before .dealing-length .ensures) (c .if1 .taken))
+unfolding dealingRefusal
+returns c = refused _ _ _ refl (differs (c .before .dealing-length .ensures) (c .if1 .taken))
+
+-- what is left of the refusal once the length is right; the lemmas like it below go on from the one before
+long : (c : tie.Else1) → unfold dealingRefusal in
+    (let a = c .before .before .before .args in Left {r = dealingRefusal (a .n) (a .t) (a .a) (a .s .now)} _ _ _ refl)
+unfolding dealingRefusal
+long c = left _ _ _ refl (equals (c .before .dealing-length .ensures) (c .if1 .left))
 
 byte-requires : tie.Need-byte-requires
 byte-requires c κs = search needs
 
 returns-2 : tie.Need-returns-2
-unfolding dealingRefusal require
-returns-2 c =
-    let long = c .before .before in
-    rw (
-      equals (long .before .dealing-length .ensures) (long .if1 .left),
-      is-not (c .before .byte .ensures) (c .if2 .taken),
-    )
+unfolding dealingRefusal
+returns-2 c = refused _ _ _ (long (c .before .before)) (is-not (c .before .byte .ensures) (c .if2 .taken))
+
+reserved : (c : tie.Else2) → unfold dealingRefusal in (Left _ _ _ (long (c .before .before)))
+unfolding dealingRefusal
+reserved c = left _ _ _ (long (c .before .before)) (is (c .before .byte .ensures) (c .if2 .left))
 
 byte-requires-2 : tie.Need-byte-requires-2
 byte-requires-2 c κs = search needs
@@ -32,16 +38,16 @@ is-party-requires : tie.Need-is-party-requires
 is-party-requires c κs = search needs
 
 returns-3 : tie.Need-returns-3
-unfolding dealingRefusal require
+unfolding dealingRefusal
 returns-3 c =
-    let reserved = c .before .before .before in
-    let long = reserved .before .before in
-    rw (
-      equals (long .before .dealing-length .ensures) (long .if1 .left),
-      is (reserved .before .byte .ensures) (reserved .if2 .left),
-      ← c .before .before .byte2 .ensures,
-      fails (c .before .is-party .ensures) (c .if3 .taken),
-    )
+    let here = rw (c .before .before .byte2 .ensures) at (c .before .is-party .ensures) in
+    refused _ _ _ (reserved (c .before .before .before)) (fails here (c .if3 .taken))
+
+party : (c : tie.Else3) → unfold dealingRefusal in (Left _ _ _ (reserved (c .before .before .before)))
+unfolding dealingRefusal
+party c =
+    let here = rw (c .before .before .byte2 .ensures) at (c .before .is-party .ensures) in
+    left _ _ _ (reserved (c .before .before .before)) (holds here (c .if3 .left))
 
 quorum-requires : tie.Need-quorum-requires
 quorum-requires c κs = search needs
@@ -50,19 +56,16 @@ all-elements-requires : tie.Need-all-elements-requires
 all-elements-requires c κs = search needs
 
 returns-4 : tie.Need-returns-4
-unfolding dealingRefusal require
+unfolding dealingRefusal
 returns-4 c =
-    let party = c .before .before .before in
-    let reserved = party .before .before .before in
-    let long = reserved .before .before in
-    rw (
-      equals (long .before .dealing-length .ensures) (long .if1 .left),
-      is (reserved .before .byte .ensures) (reserved .if2 .left),
-      ← party .before .before .byte2 .ensures,
-      holds (party .before .is-party .ensures) (party .if3 .left),
-      ← c .before .before .quorum .ensures,
-      fails (c .before .all-elements .ensures) (c .if4 .taken),
-    )
+    let here = rw (c .before .before .quorum .ensures) at (c .before .all-elements .ensures) in
+    refused _ _ _ (party (c .before .before .before)) (fails here (c .if4 .taken))
+
+elements : (c : tie.Else4) → unfold dealingRefusal in (Left _ _ _ (party (c .before .before .before)))
+unfolding dealingRefusal
+elements c =
+    let here = rw (c .before .before .quorum .ensures) at (c .before .all-elements .ensures) in
+    left _ _ _ (party (c .before .before .before)) (holds here (c .if4 .left))
 
 shares-from-requires : tie.Need-shares-from-requires
 shares-from-requires c κs = search needs
@@ -71,40 +74,16 @@ all-scalars-requires : tie.Need-all-scalars-requires
 all-scalars-requires c κs = search needs
 
 returns-5 : tie.Need-returns-5
-unfolding dealingRefusal require
+unfolding dealingRefusal
 returns-5 c =
-    let elements = c .before .before .before in
-    let party = elements .before .before .before in
-    let reserved = party .before .before .before in
-    let long = reserved .before .before in
-    rw (
-      equals (long .before .dealing-length .ensures) (long .if1 .left),
-      is (reserved .before .byte .ensures) (reserved .if2 .left),
-      ← party .before .before .byte2 .ensures,
-      holds (party .before .is-party .ensures) (party .if3 .left),
-      ← elements .before .before .quorum .ensures,
-      holds (elements .before .all-elements .ensures) (elements .if4 .left),
-      ← c .before .before .shares-from .ensures,
-      fails (c .before .all-scalars .ensures) (c .if5 .taken),
-    )
+    let here = rw (c .before .before .shares-from .ensures) at (c .before .all-scalars .ensures) in
+    refused _ _ _ (elements (c .before .before .before)) (fails here (c .if5 .taken))
 
 returns-6 : tie.Need-returns-6
-unfolding dealingRefusal require
+unfolding dealingRefusal
 returns-6 c =
-    let elements = c .before .before .before in
-    let party = elements .before .before .before in
-    let reserved = party .before .before .before in
-    let long = reserved .before .before in
-    rw (
-      equals (long .before .dealing-length .ensures) (long .if1 .left),
-      is (reserved .before .byte .ensures) (reserved .if2 .left),
-      ← party .before .before .byte2 .ensures,
-      holds (party .before .is-party .ensures) (party .if3 .left),
-      ← elements .before .before .quorum .ensures,
-      holds (elements .before .all-elements .ensures) (elements .if4 .left),
-      ← c .before .before .shares-from .ensures,
-      holds (c .before .all-scalars .ensures) (c .if5 .left),
-    )
+    let here = rw (c .before .before .shares-from .ensures) at (c .before .all-scalars .ensures) in
+    sym (left _ _ _ (elements (c .before .before .before)) (holds here (c .if5 .left)))
 
 pub dealing-refusal-spec : {M : Type 1} → statement M
 dealing-refusal-spec =

@@ -1,6 +1,7 @@
 -- `response_refusal` meets its contract: the code asks what the definition asks, in its order. Assumes nothing.
+use mathlib.Core.Path.{refl, sym}
 use borrow.Author.Needs.{needs}
-use Rattle.lists.specs.Tests.{require}
+use Rattle.lists.specs.Tests.{Left, left, refused}
 use Rattle.records.specs.Refusals.{responseRefusal}
 use Rattle.lists.specs.Calls.{holds, fails, equals, differs, is, is-not}
 use Rattle.records.proofs.response_refusal.Statement.{statement}
@@ -10,20 +11,24 @@ response-length-requires : tie.Need-response-length-requires
 response-length-requires c κs = search needs
 
 returns : tie.Need-returns
-unfolding responseRefusal require
-returns c = rw (differs (c .before .response-length .ensures) (c .if1 .taken))
+unfolding responseRefusal
+returns c = refused _ _ _ refl (differs (c .before .response-length .ensures) (c .if1 .taken))
+
+-- what is left of the refusal once the length is right; the lemmas like it below go on from the one before
+long : (c : tie.Else1) → unfold responseRefusal in (let a = c .before .before .before .args in Left {r = responseRefusal (a .n) (a .t) (a .s .now)} _ _ _ refl)
+unfolding responseRefusal
+long c = left _ _ _ refl (equals (c .before .response-length .ensures) (c .if1 .left))
 
 byte-requires : tie.Need-byte-requires
 byte-requires c κs = search needs
 
 returns-2 : tie.Need-returns-2
-unfolding responseRefusal require
-returns-2 c =
-    let long = c .before .before in
-    rw (
-      equals (long .before .response-length .ensures) (long .if1 .left),
-      is-not (c .before .byte .ensures) (c .if2 .taken),
-    )
+unfolding responseRefusal
+returns-2 c = refused _ _ _ (long (c .before .before)) (is-not (c .before .byte .ensures) (c .if2 .taken))
+
+reserved : (c : tie.Else2) → unfold responseRefusal in (Left _ _ _ (long (c .before .before)))
+unfolding responseRefusal
+reserved c = left _ _ _ (long (c .before .before)) (is (c .before .byte .ensures) (c .if2 .left))
 
 byte-requires-2 : tie.Need-byte-requires-2
 byte-requires-2 c κs = search needs
@@ -32,16 +37,16 @@ is-party-requires : tie.Need-is-party-requires
 is-party-requires c κs = search needs
 
 returns-3 : tie.Need-returns-3
-unfolding responseRefusal require
+unfolding responseRefusal
 returns-3 c =
-    let reserved = c .before .before .before in
-    let long = reserved .before .before in
-    rw (
-      equals (long .before .response-length .ensures) (long .if1 .left),
-      is (reserved .before .byte .ensures) (reserved .if2 .left),
-      ← c .before .before .byte2 .ensures,
-      fails (c .before .is-party .ensures) (c .if3 .taken),
-    )
+    let here = rw (c .before .before .byte2 .ensures) at (c .before .is-party .ensures) in
+    refused _ _ _ (reserved (c .before .before .before)) (fails here (c .if3 .taken))
+
+party : (c : tie.Else3) → unfold responseRefusal in (Left _ _ _ (reserved (c .before .before .before)))
+unfolding responseRefusal
+party c =
+    let here = rw (c .before .before .byte2 .ensures) at (c .before .is-party .ensures) in
+    left _ _ _ (reserved (c .before .before .before)) (holds here (c .if3 .left))
 
 batch-requires : tie.Need-batch-requires
 batch-requires c κs = search needs
@@ -53,34 +58,16 @@ all-scalars-requires : tie.Need-all-scalars-requires
 all-scalars-requires c κs = search needs
 
 returns-4 : tie.Need-returns-4
-unfolding responseRefusal require
+unfolding responseRefusal
 returns-4 c =
-    let party = c .before .before .before in
-    let reserved = party .before .before .before in
-    let long = reserved .before .before in
-    rw (
-      equals (long .before .response-length .ensures) (long .if1 .left),
-      is (reserved .before .byte .ensures) (reserved .if2 .left),
-      ← party .before .before .byte2 .ensures,
-      holds (party .before .is-party .ensures) (party .if3 .left),
-      ← c .before .before .batch .ensures,
-      fails (c .before .all-scalars .ensures) (c .if4 .taken),
-    )
+    let here = rw (c .before .before .batch .ensures) at (c .before .all-scalars .ensures) in
+    refused _ _ _ (party (c .before .before .before)) (fails here (c .if4 .taken))
 
 returns-5 : tie.Need-returns-5
-unfolding responseRefusal require
+unfolding responseRefusal
 returns-5 c =
-    let party = c .before .before .before in
-    let reserved = party .before .before .before in
-    let long = reserved .before .before in
-    rw (
-      equals (long .before .response-length .ensures) (long .if1 .left),
-      is (reserved .before .byte .ensures) (reserved .if2 .left),
-      ← party .before .before .byte2 .ensures,
-      holds (party .before .is-party .ensures) (party .if3 .left),
-      ← c .before .before .batch .ensures,
-      holds (c .before .all-scalars .ensures) (c .if4 .left),
-    )
+    let here = rw (c .before .before .batch .ensures) at (c .before .all-scalars .ensures) in
+    sym (left _ _ _ (party (c .before .before .before)) (holds here (c .if4 .left)))
 
 pub response-refusal-spec : {M : Type 1} → statement M
 response-refusal-spec =

@@ -1,15 +1,17 @@
 -- `setup_refusal` meets its contract: the code asks what the definition asks, in its order. Assumes nothing.
+use mathlib.Core.Path.{refl, sym}
+use mathlib.Core.Bool.{and-false}
 use borrow.Author.Needs.{needs}
 use borrow.Author.Tests.{le-leb, lt-leb}
-use Rattle.lists.specs.Tests.{require}
+use Rattle.lists.specs.Tests.{Left, left, refused}
 use Rattle.records.specs.Refusals.{setupRefusal}
 use Rattle.lists.specs.Calls.{holds, fails, equals, differs, is, is-not}
 use Rattle.records.proofs.setup_refusal.Statement.{statement}
 use Rattle.records.proofs.setup_refusal.Tie as tie
 
 returns : tie.Need-returns
-unfolding setupRefusal require
-returns c = rw (lt-leb 6 _ (c .if1 .taken))
+unfolding setupRefusal
+returns c = refused _ _ _ refl (rw (lt-leb 6 _ (c .if1 .taken)))
 
 byte-requires : tie.Need-byte-requires
 byte-requires c κs = search needs
@@ -18,29 +20,28 @@ setup-length-requires : tie.Need-setup-length-requires
 setup-length-requires c κs = search needs
 
 returns-2 : tie.Need-returns-2
-unfolding setupRefusal require
+unfolding setupRefusal
 returns-2 c =
-    let six = c .before .before .before in
-    rw (
-      le-leb 6 _ (six .if1 .left),
-      ← c .before .before .byte .ensures,
-      differs (c .before .setup-length .ensures) (c .if2 .taken),
-    )
+    let here = rw (c .before .before .byte .ensures) at (c .before .setup-length .ensures) in
+    refused _ _ _ refl (rw (differs here (c .if2 .taken), and-false))
+
+-- what is left of the refusal once the length is right; the lemmas like it below go on from the one before
+long : (c : tie.Else2) → unfold setupRefusal in (Left {r = setupRefusal (c .before .before .before .before .before .args .s .now)} _ _ _ refl)
+unfolding setupRefusal
+long c =
+    let here = rw (c .before .before .byte .ensures) at (c .before .setup-length .ensures) in
+    left _ _ _ refl (rw (le-leb 6 _ (c .before .before .before .if1 .left), equals here (c .if2 .left)))
 
 byte-requires-2 : tie.Need-byte-requires-2
 byte-requires-2 c κs = search needs
 
 returns-3 : tie.Need-returns-3
-unfolding setupRefusal require
-returns-3 c =
-    let long = c .before .before in
-    let six = long .before .before .before in
-    rw (
-      le-leb 6 _ (six .if1 .left),
-      ← long .before .before .byte .ensures,
-      equals (long .before .setup-length .ensures) (long .if2 .left),
-      is-not (c .before .byte2 .ensures) (c .if3 .taken),
-    )
+unfolding setupRefusal
+returns-3 c = refused _ _ _ (long (c .before .before)) (is-not (c .before .byte2 .ensures) (c .if3 .taken))
+
+reserved : (c : tie.Else3) → unfold setupRefusal in (Left _ _ _ (long (c .before .before)))
+unfolding setupRefusal
+reserved c = left _ _ _ (long (c .before .before)) (is (c .before .byte2 .ensures) (c .if3 .left))
 
 byte-requires-3 : tie.Need-byte-requires-3
 byte-requires-3 c κs = search needs
@@ -52,20 +53,20 @@ in-bounds-requires : tie.Need-in-bounds-requires
 in-bounds-requires c κs = search needs
 
 returns-4 : tie.Need-returns-4
-unfolding setupRefusal require
+unfolding setupRefusal
 returns-4 c =
-    let reserved = c .before .before .before .before in
-    let long = reserved .before .before in
-    let six = long .before .before .before in
-    rw (
-      le-leb 6 _ (six .if1 .left),
-      ← long .before .before .byte .ensures,
-      equals (long .before .setup-length .ensures) (long .if2 .left),
-      is (reserved .before .byte2 .ensures) (reserved .if3 .left),
-      ← c .before .before .before .byte3 .ensures,
-      ← c .before .before .byte4 .ensures,
-      fails (c .before .in-bounds .ensures) (c .if4 .taken),
-    )
+    let first = c .before .before .before .before in
+    let t = first .before .before .before .before .byte .ensures in
+    let here = rw (c .before .before .before .byte3 .ensures, t, c .before .before .byte4 .ensures) at (c .before .in-bounds .ensures) in
+    refused _ _ _ (reserved first) (fails here (c .if4 .taken))
+
+bounds : (c : tie.Else4) → unfold setupRefusal in (Left _ _ _ (reserved (c .before .before .before .before)))
+unfolding setupRefusal
+bounds c =
+    let first = c .before .before .before .before in
+    let t = first .before .before .before .before .byte .ensures in
+    let here = rw (c .before .before .before .byte3 .ensures, t, c .before .before .byte4 .ensures) at (c .before .in-bounds .ensures) in
+    left _ _ _ (reserved first) (holds here (c .if4 .left))
 
 cast-all-elements : tie.Need-cast-all-elements
 cast-all-elements c = search needs
@@ -77,40 +78,18 @@ all-elements-requires : tie.Need-all-elements-requires
 all-elements-requires c κs = search needs
 
 returns-5 : tie.Need-returns-5
-unfolding setupRefusal require
+unfolding setupRefusal
 returns-5 c =
-    let bounds = c .before .before in
-    let reserved = bounds .before .before .before .before in
-    let long = reserved .before .before in
-    let six = long .before .before .before in
-    rw (
-      le-leb 6 _ (six .if1 .left),
-      ← long .before .before .byte .ensures,
-      equals (long .before .setup-length .ensures) (long .if2 .left),
-      is (reserved .before .byte2 .ensures) (reserved .if3 .left),
-      ← bounds .before .before .before .byte3 .ensures,
-      ← bounds .before .before .byte4 .ensures,
-      holds (bounds .before .in-bounds .ensures) (bounds .if4 .left),
-      fails (c .before .all-elements .ensures) (c .if5 .taken),
-    )
+    let t = c .before .before .before .before .before .before .before .before .before .before .byte .ensures in
+    let here = rw t at (c .before .all-elements .ensures) in
+    refused _ _ _ (bounds (c .before .before)) (fails here (c .if5 .taken))
 
 returns-6 : tie.Need-returns-6
-unfolding setupRefusal require
+unfolding setupRefusal
 returns-6 c =
-    let bounds = c .before .before in
-    let reserved = bounds .before .before .before .before in
-    let long = reserved .before .before in
-    let six = long .before .before .before in
-    rw (
-      le-leb 6 _ (six .if1 .left),
-      ← long .before .before .byte .ensures,
-      equals (long .before .setup-length .ensures) (long .if2 .left),
-      is (reserved .before .byte2 .ensures) (reserved .if3 .left),
-      ← bounds .before .before .before .byte3 .ensures,
-      ← bounds .before .before .byte4 .ensures,
-      holds (bounds .before .in-bounds .ensures) (bounds .if4 .left),
-      holds (c .before .all-elements .ensures) (c .if5 .left),
-    )
+    let t = c .before .before .before .before .before .before .before .before .before .before .byte .ensures in
+    let here = rw t at (c .before .all-elements .ensures) in
+    sym (left _ _ _ (bounds (c .before .before)) (holds here (c .if5 .left)))
 
 pub setup-refusal-spec : {M : Type 1} → statement M
 setup-refusal-spec =

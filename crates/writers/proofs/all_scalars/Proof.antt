@@ -1,26 +1,21 @@
 -- `all_scalars` meets its contract. Every number below i is a scalar. Assumes nothing.
-use mathlib.Core.Path.{_≡_, refl, sym}
-use mathlib.Core.Bool.{true}
-use Prim.Native.Nat.{_-_, _≤_}
+use Prim.Native.Nat.{_-_}
 use native.Mathlib.Omega.{arith}
 use borrow.Author.Needs.{needs}
 use lib.ListN.{getD}
-use Rattle.lists.specs.Tests.{allTo}
 use Rattle.field.specs.Definitions.{isScalar}
-use Rattle.lists.specs.Calls.{holds, fails}
-use Rattle.records.proofs.Loops.{all-more, one-fails}
+use Rattle.lists.specs.Calls.{Asked, asked-none, asked-more, asked-fails, asked-all}
 use Rattle.writers.proofs.all_scalars.Statement.{statement}
 use Rattle.writers.proofs.all_scalars.Tie as tie
 
 abbrev Inv-loop : tie.InvT-loop
-Inv-loop list count i₀ i = (i ≤ count) × (allTo i (λ k. isScalar (getD list k 0)) ≡ true)
+Inv-loop list count i₀ i = Asked (λ k. isScalar (getD list k 0)) count i
 
 abbrev μ-loop : tie.MeasureT-loop
 μ-loop list count i₀ i = count - i
 
 loop-holds : tie.Need-loop-holds Inv-loop μ-loop
-unfolding allTo
-loop-holds c = (omega arith, refl)
+loop-holds c = asked-none _ _
 
 mul-accepts : tie.Need-mul-accepts Inv-loop μ-loop
 mul-accepts c = search needs
@@ -32,9 +27,7 @@ accepts-requires : tie.Need-accepts-requires Inv-loop μ-loop
 accepts-requires c κs = search needs
 
 returns : tie.Need-returns Inv-loop μ-loop
-returns c =
-    let l = c .before .before .before .before .loop in
-    sym (one-fails _ (l .i) _ (omega arith) (fails (c .before .accepts .ensures) (c .if1 .taken)))
+returns c = asked-fails _ _ _ (c .before .accepts .ensures) (c .if1 .taken) (omega arith)
 
 add-i : tie.Need-add-i Inv-loop μ-loop
 add-i c = search needs
@@ -45,13 +38,10 @@ loop-less c = search needs
 loop-again : tie.Need-loop-again Inv-loop μ-loop
 loop-again c =
     let l = c .before .before .before .before .loop in
-    (omega arith, all-more _ (l .i) (l .inv .1) (holds (c .before .accepts .ensures) (c .if1 .left)))
+    asked-more _ _ _ (l .inv) (c .before .accepts .ensures) (c .if1 .left) (omega arith)
 
 returns-2 : tie.Need-returns-2 Inv-loop μ-loop
-returns-2 c =
-    let l = c .before .loop in
-    let end : l .i ≡ lib.ListN.length (c .before .before .before .args .list .now) = omega arith in
-    sym (rw end at (l .inv .1))
+returns-2 c = asked-all _ _ _ (c .before .loop .inv) (omega arith)
 
 pub all-scalars-spec : {M : Type 1} → statement M
 all-scalars-spec =
