@@ -83,7 +83,7 @@ loop-again : tie.Need-loop-again Inv-loop μ-loop
 loop-again c =
     let l = c .before .before .before .loop in
     let a = c .before .before .before .before .before .args in
-    let member = c .before .has .ensures in
+    let member : c .before .has .result ≡ has (a .qual) (l .i + 1) = c .before .has .ensures in
     let more = next (has (a .qual)) (a .shares .now) (a .u) (l .i) in (
       omega arith,
       ⊎-elim

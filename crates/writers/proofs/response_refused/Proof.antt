@@ -1,7 +1,10 @@
 -- `response_refused` meets its contract: the code asks what the definition asks, in its order. Assumes nothing.
 use borrow.Author.Needs.{needs}
+use mathlib.Core.Path.{_≡_}
+use mathlib.Core.Bool.{false}
 use Rattle.lists.specs.Tests.{require}
 use Rattle.lists.specs.Calls.{holds, fails, is, is-not}
+use Rattle.sets.specs.Masks.{has}
 use Rattle.writers.specs.Writers.{responseRefused}
 use Rattle.writers.specs.WriterLaws.{sharesRefused}
 use Rattle.writers.proofs.response_refused.Statement.{statement}
@@ -31,11 +34,9 @@ unfolding responseRefused require
 returns-3 c =
     let party = c .before .before in
     let stage = party .before .before in
-    rw (
-      is (stage .before .stage-of .ensures) (stage .if1 .left),
-      holds (party .before .is-party .ensures) (party .if2 .left),
-      fails (c .before .has .ensures) (c .if3 .taken),
-    )
+    let a = stage .before .before .before .args in
+    let absent : has (a .run .complaints .holders) (a .j) ≡ false = fails (c .before .has .ensures) (c .if3 .taken) in
+    rw (is (stage .before .stage-of .ensures) (stage .if1 .left), holds (party .before .is-party .ensures) (party .if2 .left), absent)
 
 shares-refused-requires : tie.Need-shares-refused-requires
 shares-refused-requires c κs = search needs

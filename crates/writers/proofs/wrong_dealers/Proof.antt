@@ -69,11 +69,13 @@ loop-less c = search needs
 loop-again : tie.Need-loop-again Inv-loop μ-loop
 loop-again c =
     let l = c .before .before .before .loop in
-    let dealt = c .before .has .ensures in
     let a = c .before .before .before .before .before .args in
+    let dealt : c .before .has .result ≡ has (a .run .dealings .dealers) (l .i + 1) = c .before .has .ensures in
     let more = next (a .run .dealings .dealers) (a .run .dealings .wrong) (a .j) (l .i) (omega arith) in (
       omega arith,
-      ⊎-elim (λ w. w .4 ∙ w .3 .ensures ∙ rw (l .inv .1) (sym (rw (sym dealt ∙ w .0 .taken, sym (w .1 .ensures) ∙ w .2 .taken) at more)))
+      ⊎-elim (λ w.
+          let wrong : w .1 .result ≡ has (getD (a .run .dealings .wrong) (l .i) 0) (a .j) = w .1 .ensures in
+          w .4 ∙ w .3 .ensures ∙ rw (l .inv .1) (sym (rw (sym dealt ∙ w .0 .taken, sym wrong ∙ w .2 .taken) at more)))
           (⊎-elim (λ w. w .3 ∙ l .inv .1 ∙ sym (rw (sym dealt ∙ w .0 .taken, sym (w .1 .ensures) ∙ w .2 .left) at more))
           (λ w. w .1 ∙ l .inv .1 ∙ sym (rw (sym dealt ∙ w .0 .left) at more))) (c .if1 .came),
     )

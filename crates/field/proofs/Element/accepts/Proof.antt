@@ -2,8 +2,9 @@
 use borrow.Author.Tests.{le-ltb, lt-ltb}
 use native.Mathlib.Omega.{arith}
 use Prim.Native.Nat.{_<_}
-use mathlib.Core.Path.{ap}
-use lib.Dec.{eqb}
+use mathlib.Core.Path.{_≡_, ap}
+use mathlib.Core.Bool.{false}
+use lib.Dec.{eqb, ltb}
 use Rattle.field.specs.Definitions.{P, q, isElement}
 use borrow.Author.Needs.{needs}
 use Rattle.field.proofs.Element.accepts.Statement.{statement}
@@ -18,7 +19,8 @@ unfolding isElement P
 returns-2 c =
     let x = c .before .before .args .x in
     let p : 0 < x = omega arith in
-    rw (lt-ltb 0 x p, le-ltb x 1000000007 (c .if2 .taken))
+    let above : ltb x P ≡ false = le-ltb x P (c .if2 .taken) in
+    rw (lt-ltb 0 x p, above)
 
 power-of-requires : tie.Need-power-of-requires
 power-of-requires c κs = search needs

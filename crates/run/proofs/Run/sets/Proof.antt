@@ -1,7 +1,11 @@
 -- `Run::sets` meets its contract: the stage is asked from below, then from above. Assumes nothing.
 use borrow.Author.Tests.{le-leb, lt-leb}
 use borrow.Author.Needs.{needs}
-use Rattle.run.specs.Runs.{setsOf}
+use mathlib.Core.Path.{_≡_, sym, ap}
+use mathlib.Core.Bool.{Bool, true, false, _&&_}
+use lib.Dec.{leb}
+use Rattle.lists.specs.Tests.{pick}
+use Rattle.run.specs.Runs.{stageOf, qualOf, setsOf}
 use Rattle.run.proofs.Run.sets.Statement.{statement}
 use Rattle.run.proofs.Run.sets.Tie as tie
 
@@ -10,7 +14,10 @@ stage-of-requires c κs = search needs
 
 returns : tie.Need-returns
 unfolding setsOf
-returns c = rw (← c .before .stage-of .ensures, lt-leb 3 _ (c .if1 .taken))
+returns c =
+    let r = c .before .before .args .self in
+    let low : (leb 3 (stageOf r) && leb (stageOf r) 6) ≡ false = rw (← c .before .stage-of .ensures, lt-leb 3 _ (c .if1 .taken)) in
+    sym (ap (λ (b : Bool). pick b (record { fixed = true; hold = r .complaints .holders; qual = qualOf r; bad = r .complaints .blamed }) (record { fixed = false; hold = 0; qual = 0; bad = 0 })) low)
 
 returns-2 : tie.Need-returns-2
 unfolding setsOf

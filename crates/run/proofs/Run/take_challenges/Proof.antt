@@ -1,11 +1,13 @@
 -- `Run::take_challenges` meets its contract. Assumes nothing.
-use borrow.Author.Tests.{ne-eqb}
 use borrow.Author.Needs.{needs}
 use native.Mathlib.Omega.{arith}
-use mathlib.Core.Path.{_∙_}
+use mathlib.Core.Path.{_≡_, ap, _∙_}
+use mathlib.Core.List.{List}
+use Rattle.field.specs.declared.Scalar.{Scalar}
 use Rattle.records.specs.Laws.{cells-max}
 use Rattle.run.specs.RunLaws.{formed-of}
 use Rattle.run.specs.Steps.{challengesNumber, afterChallenges}
+use Rattle.run.proofs.Numbers.{refused-by, accepted-by}
 use Rattle.run.proofs.Run.take_challenges.Statement.{statement}
 use Rattle.run.proofs.Run.take_challenges.Tie as tie
 
@@ -17,7 +19,7 @@ refuse-requires c κs = search needs
 
 returns : tie.Need-returns
 unfolding challengesNumber
-returns c = c .refuse .ensures ∙ rw (← c .before .before .challenges-refusal .ensures, ne-eqb _ _ (c .before .if1 .taken))
+returns c = c .refuse .ensures ∙ refused-by (c .before .before .challenges-refusal .ensures) _ _ (c .before .if1 .taken)
 
 cast-count : tie.Need-cast-count
 cast-count c = search needs
@@ -41,7 +43,21 @@ unfolding challengesNumber afterChallenges
 returns-2 c =
     let batch = c .before in
     let passed = batch .before .before .before in
-    rw (← passed .before .challenges-refusal .ensures, passed .if1 .left, c .load-challenges .ensures, batch .batch .ensures)
+    let a = passed .before .before .before .args in
+    let r = a .self in
+    let list : c .load-challenges .result ≡ afterChallenges r (a .bytes .now) .challenges = c .load-challenges .ensures ∙ rw (batch .batch .ensures) in
+    accepted-by (passed .before .challenges-refusal .ensures) _ (passed .if1 .left)
+    (ap
+    (λ (l : List Scalar). record {
+      stage = 4;
+      setup = r .setup;
+      dealings = r .dealings;
+      complaints = r .complaints;
+      challenges = l;
+      responses = r .responses;
+      signatures = r .signatures;
+    })
+    list)
 
 pub take-challenges-spec : {M : Type 1} → statement M
 take-challenges-spec =

@@ -3,15 +3,15 @@ use borrow.Author.Needs.{needs}
 use borrow.Author.Tests.{eq-eqb, ne-eqb}
 use native.Mathlib.Omega.{arith}
 use mathlib.Core.Logic.{⊎-elim}
-use mathlib.Core.Path.{_≡_, ap, sym, _∙_}
-use Prim.Native.Nat.{_+_, _-_}
+use mathlib.Core.Path.{_≡_, ap, ap₂, sym, _∙_}
+use Prim.Native.Nat.{ℕ, _+_, _-_}
 use lib.Dec.{eqb}
 use Rattle.lists.specs.Tests.{pick}
 use Rattle.records.specs.Laws.{bounds-test, dealing-passed}
 use Rattle.run.specs.declared.Dealings.{Dealings}
 use Rattle.run.specs.Steps.{dealingNumber, withDealing, afterDealing}
 use Rattle.run.specs.RunLaws.{formed-of}
-use Rattle.run.proofs.Numbers.{first-none}
+use Rattle.run.proofs.Numbers.{first-none, refused-by, accepted-by}
 use Rattle.run.proofs.Run.take_dealing.Statement.{statement}
 use Rattle.run.proofs.Run.take_dealing.Tie as tie
 
@@ -22,7 +22,7 @@ refuse-requires : tie.Need-refuse-requires
 refuse-requires c κs = search needs
 
 returns : tie.Need-returns
-returns c = c .refuse .ensures ∙ rw (← c .before .before .dealing-number .ensures, ne-eqb _ _ (c .before .if1 .taken))
+returns c = c .refuse .ensures ∙ refused-by (c .before .before .dealing-number .ensures) _ _ (c .before .if1 .taken)
 
 with-requires : tie.Need-with-requires
 unfolding dealingNumber
@@ -52,7 +52,18 @@ returns-2 c =
     (λ w. w .1 ∙ rw (eq-eqb _ _ (sym more ∙ w .0 .taken)))
     (λ w. w .1 ∙ rw (ne-eqb _ _ (λ e. w .0 .left (more ∙ e))))
     (c .if2 .came) in
-    rw (← passed .before .dealing-number .ensures, passed .if1 .left, stage, taken .with .ensures)
+    accepted-by (passed .before .dealing-number .ensures) _ (passed .if1 .left)
+    (ap₂
+    (λ (g : ℕ) (d : Dealings). record {
+      stage = g;
+      setup = r .setup;
+      dealings = d;
+      complaints = r .complaints;
+      challenges = r .challenges;
+      responses = r .responses;
+      signatures = r .signatures;
+    })
+    stage (taken .with .ensures))
 
 pub take-dealing-spec : {M : Type 1} → statement M
 take-dealing-spec =

@@ -2,12 +2,18 @@
 use borrow.Author.Needs.{needs}
 use borrow.Author.Tests.{eq-eqb, ne-eqb}
 use native.Mathlib.Omega.{arith}
-use mathlib.Core.Path.{ap, sym, _∙_}
+use mathlib.Core.Path.{_≡_, ap, sym, _∙_}
+use mathlib.Core.Bool.{Bool, true, false}
+use Prim.Native.Nat.{_+_}
+use lib.Dec.{eqb}
+use Rattle.lists.specs.Tests.{pick}
 use Rattle.records.specs.Parameters.{quorum}
 use Rattle.records.specs.Laws.{quorum-is}
+use Rattle.run.specs.declared.Run.{Run}
 use Rattle.run.specs.declared.Responses.{Responses}
-use Rattle.run.specs.Steps.{withResponse, withRow, afterResponse}
+use Rattle.run.specs.Steps.{withResponse, withRow, finished, afterResponse}
 use Rattle.run.specs.RunLaws.{formed-of, formed-test}
+use Rattle.run.proofs.Numbers.{refused-by, accepted-by}
 use Rattle.run.proofs.Run.take_response.Statement.{statement}
 use Rattle.run.proofs.Run.take_response.Tie as tie
 
@@ -18,7 +24,7 @@ refuse-requires : tie.Need-refuse-requires
 refuse-requires c κs = search needs
 
 returns : tie.Need-returns
-returns c = c .refuse .ensures ∙ rw (← c .before .before .response-number .ensures, ne-eqb _ _ (c .before .if1 .taken))
+returns c = c .refuse .ensures ∙ refused-by (c .before .before .response-number .ensures) _ _ (c .before .if1 .taken)
 
 with-requires : tie.Need-with-requires
 with-requires c κs =
@@ -48,23 +54,43 @@ finish-requires c κs =
       responses-max = omega (arith, count, c .before .quorum .ensures, quorum-is (formed .bounds), formed .bounds .enough);
     })
 
+-- the run with the rows p, at stage 4
+abbrev with-rows : Run → Responses → Run
+with-rows r p = record {
+  stage = 4;
+  setup = r .setup;
+  dealings = r .dealings;
+  complaints = r .complaints;
+  challenges = r .challenges;
+  responses = p;
+  signatures = r .signatures;
+}
+
 returns-2 : tie.Need-returns-2
 unfolding afterResponse withRow
 returns-2 c =
-    let quorum = c .before .before in
-    let taken = quorum .before .before in
+    let need = c .before .before in
+    let taken = need .before .before in
     let passed = taken .before .before .before in
-    let done = eq-eqb _ _ (c .before .if2 .taken ∙ quorum .quorum .ensures) in
-    rw (← passed .before .response-number .ensures, passed .if1 .left, done, c .finish .ensures, taken .with .ensures)
+    let a = passed .before .before .before .args in
+    let r = a .self in
+    let done : eqb (r .responses .count + 1) (quorum (r .setup .t) (r .setup .a)) ≡ true = eq-eqb _ _ (c .before .if2 .taken ∙ need .quorum .ensures) in
+    accepted-by (passed .before .response-number .ensures) _ (passed .if1 .left)
+    (c .finish .ensures ∙ ap (λ (p : Responses). finished (with-rows r p)) (taken .with .ensures)
+    ∙ sym (ap (λ (b : Bool). pick b (finished (withRow r (a .bytes .now))) (withRow r (a .bytes .now))) done))
 
 returns-3 : tie.Need-returns-3
 unfolding afterResponse withRow
 returns-3 c =
-    let quorum = c .before in
-    let taken = quorum .before .before in
+    let need = c .before in
+    let taken = need .before .before in
     let passed = taken .before .before .before in
-    let more = ne-eqb _ _ (λ e. c .if2 .left (e ∙ sym (quorum .quorum .ensures))) in
-    rw (← passed .before .response-number .ensures, passed .if1 .left, more, taken .with .ensures)
+    let a = passed .before .before .before .args in
+    let r = a .self in
+    let more : eqb (r .responses .count + 1) (quorum (r .setup .t) (r .setup .a)) ≡ false = ne-eqb _ _ (λ e. c .if2 .left (e ∙ sym (need .quorum .ensures))) in
+    accepted-by (passed .before .response-number .ensures) _ (passed .if1 .left)
+    (ap (with-rows r) (taken .with .ensures)
+    ∙ sym (ap (λ (b : Bool). pick b (finished (withRow r (a .bytes .now))) (withRow r (a .bytes .now))) more))
 
 pub take-response-spec : {M : Type 1} → statement M
 take-response-spec =

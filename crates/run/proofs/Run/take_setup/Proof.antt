@@ -1,8 +1,9 @@
 -- `Run::take_setup` meets its contract. Assumes nothing.
-use borrow.Author.Tests.{ne-eqb}
 use borrow.Author.Needs.{needs}
-use mathlib.Core.Path.{_∙_}
+use mathlib.Core.Path.{ap, _∙_}
+use Rattle.run.specs.Runs.{begun}
 use Rattle.run.specs.Steps.{afterSetup}
+use Rattle.run.proofs.Numbers.{refused-by, accepted-by}
 use Rattle.run.proofs.Run.take_setup.Statement.{statement}
 use Rattle.run.proofs.Run.take_setup.Tie as tie
 
@@ -13,7 +14,7 @@ refuse-requires : tie.Need-refuse-requires
 refuse-requires c κs = search needs
 
 returns : tie.Need-returns
-returns c = c .refuse .ensures ∙ rw (← c .before .before .setup-refusal .ensures, ne-eqb _ _ (c .before .if1 .taken))
+returns c = c .refuse .ensures ∙ refused-by (c .before .before .setup-refusal .ensures) _ _ (c .before .if1 .taken)
 
 read-requires : tie.Need-read-requires
 read-requires c κs = search needs
@@ -25,7 +26,7 @@ returns-2 : tie.Need-returns-2
 unfolding afterSetup
 returns-2 c =
     let passed = c .before .before in
-    rw (← passed .before .setup-refusal .ensures, passed .if1 .left, c .begun .ensures, c .before .read .ensures)
+    accepted-by (passed .before .setup-refusal .ensures) _ (passed .if1 .left) (c .begun .ensures ∙ ap (begun 1) (c .before .read .ensures))
 
 pub take-setup-spec : {M : Type 1} → statement M
 take-setup-spec =

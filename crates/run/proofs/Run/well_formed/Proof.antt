@@ -1,6 +1,9 @@
 -- `Run::well_formed` meets its contract: each test settles one factor of the definition. Assumes nothing.
 use borrow.Author.Tests.{not-true, not-false, le-leb, lt-leb}
 use borrow.Author.Needs.{needs}
+use mathlib.Core.Path.{_≡_}
+use mathlib.Core.Bool.{false}
+use lib.Dec.{leb}
 use Rattle.run.specs.Runs.{wellFormed}
 use Rattle.run.proofs.Run.well_formed.Statement.{statement}
 use Rattle.run.proofs.Run.well_formed.Tie as tie
@@ -23,7 +26,9 @@ unfolding wellFormed
 returns-3 c =
     let dealings = c .before .before in
     let bounds = dealings .before .before in
-    rw (← bounds .before .in-bounds .ensures, not-false (bounds .before .in-bounds .result) (bounds .if1 .left), le-leb _ _ (dealings .if2 .left), lt-leb _ _ (c .if3 .taken))
+    let r = bounds .before .before .args .self in
+    let above : leb (r .complaints .count) (r .setup .n) ≡ false = lt-leb _ _ (c .if3 .taken) in
+    rw (← bounds .before .in-bounds .ensures, not-false (bounds .before .in-bounds .result) (bounds .if1 .left), le-leb _ _ (dealings .if2 .left), above)
 
 returns-4 : tie.Need-returns-4
 unfolding wellFormed
