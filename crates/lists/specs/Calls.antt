@@ -6,7 +6,7 @@ use Prim.Native.Nat.{ℕ, _+_, _≤_, _<_}
 use native.Mathlib.Omega.{arith}
 use lib.Dec.{eqb}
 use borrow.Author.Tests.{eq-eqb, ne-eqb, not-true, not-false}
-use Rattle.lists.specs.Tests.{allTo, all-more, one-fails}
+use Rattle.lists.specs.Tests.{allTo, require, orNext, all-more, one-fails}
 
 -- the code negates a call that answers by a truth value
 pub holds : {r b : Bool} → r ≡ b → not r ≡ false → b ≡ true
@@ -28,6 +28,18 @@ is {r} {y} {k} e h = eq-eqb y k (sym e ∙ h)
 
 pub is-not : {r y k : ℕ} → r ≡ y → (r ≡ k → ⊥) → eqb y k ≡ false
 is-not {r} {y} {k} e h = ne-eqb y k (λ p. h (e ∙ p))
+
+-- ---- refusals in a row: the code asks first whether the record itself is refused, by k
+
+module _ {n k : ℕ} (first : n ≡ k) where
+  pub itself : (next : ℕ) → (n ≡ 0 → ⊥) → n ≡ orNext k next
+  unfolding orNext
+  itself next h = first ∙ rw (is-not first h)
+
+  -- then, by a call, whether its sender has one already
+  pub sent : {i j : ℕ} {b : Bool} (f : ℕ → Bool) (number rest : ℕ) → n ≡ 0 → i ≡ j → b ≡ f i → require (not b) number rest ≡ orNext k (require (not (f j)) number rest)
+  unfolding orNext
+  sent f number rest none at asked = rw (is first none, ← at, ← asked)
 
 -- ---- a loop that asks f of each number below n, by a call, and stops at one that fails
 

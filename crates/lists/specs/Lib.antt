@@ -2,3 +2,4 @@ pub mod Members
 pub mod Stores
 pub mod Tests
 pub mod Calls
+pub mod Loads

@@ -6,6 +6,8 @@ use Prim.Native.Nat.{ℕ, zero, suc, _+_, _≤_, _<_}
 use native.Mathlib.Omega.{arith}
 use native.Mathlib.Numerals.{add-one}
 use native.Mathlib.Decide.{ℕ-discrete}
+use lib.Dec.{eqb}
+use borrow.Author.Tests.{eqb-true, eqb-false}
 -- not-yes : (b : Bool) → not b ≡ true → b ≡ false
 pub use borrow.Author.Tests.{not-true as not-yes}
 
@@ -23,6 +25,10 @@ allTo (suc n) f = allTo n f && f n
 unfoldable pub require : Bool → ℕ → ℕ → ℕ
 require true k rest = rest
 require false k rest = k
+
+-- the refusal k, or what comes next where there is none
+unfoldable pub orNext : ℕ → ℕ → ℕ
+orNext k next = pick (eqb k 0) next k
 
 -- ---- choices
 
@@ -117,3 +123,17 @@ pub passed : (b : Bool) (k x : ℕ) → require b k x ≡ 0 → 0 < k → (b ≡
 unfolding require
 passed true k x e p = (refl, e)
 passed false k x e p = absurd (omega arith)
+
+-- no refusal: none before, and none after
+pub or-next : (k next : ℕ) → orNext k next ≡ 0 → (k ≡ 0) × (next ≡ 0)
+unfolding orNext
+or-next k next e = go (eqb k 0) refl e
+  where
+    go : (b : Bool) → eqb k 0 ≡ b → pick b next k ≡ 0 → (k ≡ 0) × (next ≡ 0)
+    go true d e = (eqb-true k 0 d, e)
+    go false d e = absurd (eqb-false k 0 d e)
+
+-- and the other way round
+pub next-pass : (k next : ℕ) → k ≡ 0 → next ≡ 0 → orNext k next ≡ 0
+unfolding orNext
+next-pass k next e z = rw e z

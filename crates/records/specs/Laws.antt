@@ -13,8 +13,20 @@ use Rattle.lists.specs.Tests.{and-right, all-at, all-make, require-pass, passed
 use Rattle.field.specs.Definitions.{isScalar, isElement}
 use Rattle.records.specs.Parameters.{mostParties, inBounds, quorum, batch, isParty}
 use Rattle.records.specs.Bytes.{byteAt, numberAt, word, sender}
-use Rattle.records.specs.Tags.{setupLength, dealingLength, complaintLength, challengesLength, responseLength}
+use Rattle.records.specs.Tags.{Tag, SU, DE, VE, CH, RE, unknown, code, decoded, setupLength, dealingLength, complaintLength, challengesLength, responseLength}
 use Rattle.records.specs.Refusals.{setupRefusal, sharesFrom, dealingRefusal, maskFits, complaintRefusal, challengesRefusal, responseRefusal}
+
+-- ---- tags
+
+-- the tag that its code stands for
+pub decoded-code : (g : Tag) → decoded (code g) ≡ g
+unfolding decoded
+decoded-code SU = refl
+decoded-code DE = refl
+decoded-code VE = refl
+decoded-code CH = refl
+decoded-code RE = refl
+decoded-code unknown = refl
 
 -- ---- the bounds
 

@@ -24,6 +24,10 @@ code CH = 4
 code RE = 5
 code unknown = 0
 
+-- and back
+unfoldable pub decoded : ℕ → Tag
+decoded k = pick (eqb k 1) SU (pick (eqb k 2) DE (pick (eqb k 3) VE (pick (eqb k 4) CH (pick (eqb k 5) RE unknown))))
+
 -- the tag of a record: its first two bytes, in ASCII
 unfoldable pub tagOf : List ℕ → Tag
 tagOf s =

@@ -1,0 +1,2 @@
+pub mod Blames
+pub mod Shares

@@ -1,0 +1,71 @@
+-- `load_values` meets its contract. The loop has stored the values passed. Assumes nothing.
+use borrow.Author.Needs.{needs}
+use native.Mathlib.Omega.{arith}
+use mathlib.Core.Logic.{⊎-elim}
+use mathlib.Core.Path.{_≡_, refl, ap}
+use Prim.Native.Nat.{_-_, _≤_}
+use Rattle.lists.specs.Stores.{stored, filled, length-filled}
+use Rattle.field.specs.Definitions.{element}
+use Rattle.records.specs.Bytes.{word}
+use Rattle.protocol.specs.Arrays.{elements}
+use Rattle.lists.specs.Loads.{load-in, load-past, loaded}
+use Rattle.dealing.proofs.load_values.Statement.{statement}
+use Rattle.dealing.proofs.load_values.Tie as tie
+
+abbrev Inv-loop : tie.InvT-loop
+Inv-loop bytes count list₀ v₀ list v = (v ≤ count) × (list ≡ stored (filled 64 (element 0)) 0 v (λ k. element (word bytes 4 k)))
+
+abbrev μ-loop : tie.MeasureT-loop
+μ-loop bytes count list₀ v₀ list v = count - v
+
+loop-holds : tie.Need-loop-holds Inv-loop μ-loop
+unfolding stored filled
+loop-holds c = (omega arith, refl)
+
+word-requires : tie.Need-word-requires Inv-loop μ-loop
+word-requires c κs = search needs
+
+cast-list : tie.Need-cast-list Inv-loop μ-loop
+cast-list c = search needs
+
+mul-list : tie.Need-mul-list Inv-loop μ-loop
+mul-list c = search needs
+
+array-set-from-list : tie.Need-array-set-from-list Inv-loop μ-loop
+array-set-from-list c = search needs
+
+add-v : tie.Need-add-v Inv-loop μ-loop
+add-v c = search needs
+
+loop-less : tie.Need-loop-less Inv-loop μ-loop
+loop-less c = search needs
+
+loop-again : tie.Need-loop-again Inv-loop μ-loop
+loop-again c =
+    let l = c .before .before .loop in (
+      omega arith,
+      ⊎-elim
+          (λ w. load-in _ 0 (l .v) _ (l .inv .1) (omega arith) (ap element (w .1 .ensures)) (w .2))
+          (λ w. load-past _ 0 (l .v) _ (l .inv .1) (omega (arith, length-filled 64 (element 0))) (w .1))
+          (c .if1 .came),
+    )
+
+returns : tie.Need-returns Inv-loop μ-loop
+unfolding elements
+returns c = loaded _ _ _ _ (c .before .loop .inv .1) (omega arith)
+
+pub load-values-spec : {M : Type 1} → statement M
+load-values-spec =
+    tie.close
+    (tie.spec
+    Inv-loop
+    μ-loop
+    loop-holds
+    word-requires
+    cast-list
+    mul-list
+    array-set-from-list
+    add-v
+    loop-less
+    loop-again
+    returns)

@@ -1,0 +1,68 @@
+-- The accepted setup and the accepted dealings (document 01, "The run"): what is kept of them, and what one more dealing does.
+use Prim.Native.Nat.{ℕ, _+_, _-_}
+use mathlib.Core.Bool.{Bool, not, _&&_}
+use mathlib.Core.List.{List}
+use lib.ListN.{getD, set}
+use Rattle.lists.specs.Tests.{require, orNext}
+use Rattle.lists.specs.Stores.{stored, filled}
+use Rattle.sets.specs.Masks.{has, insert, maskOf}
+use Rattle.field.specs.declared.Scalar.{Scalar}
+use Rattle.field.specs.declared.Element.{Element}
+use Rattle.field.specs.Definitions.{scalar, element}
+use Rattle.interpolation.specs.Definitions.{committedPoint, elementAt}
+use Rattle.records.specs.Parameters.{quorum}
+use Rattle.records.specs.Bytes.{byteAt, word, sender}
+use Rattle.records.specs.Refusals.{sharesFrom, dealingRefusal}
+use Rattle.protocol.specs.Transcript.{validShare}
+use Rattle.protocol.specs.Arrays.{base}
+use Rattle.dealing.specs.declared.Setup.{Setup}
+use Rattle.dealing.specs.declared.Dealings.{Dealings}
+
+-- ---- the setup
+
+unfoldable pub noSetup : Setup
+noSetup = record { n = 0; t = 0; a = 0; key = filled 32 (element 0) }
+
+-- the setup of an accepted SU
+unfoldable pub setupOf : List ℕ → Setup
+setupOf s =
+    record {
+      n = byteAt s 2;
+      t = byteAt s 3;
+      a = byteAt s 4;
+      key = stored (noSetup .key) 0 (byteAt s 3 + 1) (λ j. element (word s 6 j));
+    }
+
+-- S_x of a setup
+unfoldable pub keyOf : Setup → Scalar → Element
+keyOf setup x = elementAt (committedPoint (setup .a)) (setup .t + setup .a) (λ v. getD (setup .key) (v + 1 - setup .a) (element 0)) x
+
+-- ---- the dealings
+
+unfoldable pub noDealings : Dealings
+noDealings = record { count = 0; dealers = 0; commitments = filled 1024 (element 0); wrong = filled 32 0 }
+
+-- the refusal of a DE at stage 1: 12, after those from the input
+unfoldable pub dealingNumber : Setup → Dealings → List ℕ → ℕ
+dealingNumber setup d s =
+    orNext (dealingRefusal (setup .n) (setup .t) (setup .a) s)
+    (require (not (has (d .dealers) (sender s))) 12 0)
+
+-- the holders for whom the share of a dealing is not valid
+unfoldable pub wrongShares : Setup → List ℕ → ℕ
+wrongShares setup s =
+    maskOf (setup .n)
+    (λ j. not (validShare (setup .t) (setup .a) (λ v. element (word s 4 v)) j (scalar (word s (sharesFrom (setup .t) (setup .a)) (j - 1)))))
+
+unfoldable pub withDealing : Setup → Dealings → List ℕ → Dealings
+withDealing setup d s =
+    record {
+      count = d .count + 1;
+      dealers = insert (d .dealers) (sender s);
+      commitments = stored (d .commitments) (base (sender s)) (quorum (setup .t) (setup .a)) (λ v. element (word s 4 v));
+      wrong = set (d .wrong) (sender s - 1) (wrongShares setup s);
+    }
+
+-- holder j may blame dealer i: i has a dealing, whose share for j is not valid
+unfoldable pub mayBlame : Dealings → ℕ → ℕ → Bool
+mayBlame d j i = has (d .dealers) i && has (getD (d .wrong) (i - 1) 0) j

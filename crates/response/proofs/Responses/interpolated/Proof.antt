@@ -1,0 +1,39 @@
+-- `Responses::interpolated` meets its contract. Assumes nothing.
+use borrow.Author.Needs.{needs}
+use native.Mathlib.Omega.{arith}
+use mathlib.Core.Path.{_∙_}
+use Rattle.interpolation.specs.Bases.{weights-by}
+use Rattle.response.proofs.Rows.{phi-members}
+use Rattle.response.proofs.Responses.interpolated.Statement.{statement}
+use Rattle.response.proofs.Responses.interpolated.Tie as tie
+
+point-requires : tie.Need-point-requires
+point-requires c κs = search needs
+
+weights-requires : tie.Need-weights-requires
+weights-requires c κs = search needs
+
+member-numbers-requires : tie.Need-member-numbers-requires
+member-numbers-requires c κs = search needs
+
+sum-requires : tie.Need-sum-requires
+sum-requires c κs = search needs
+
+returns : tie.Need-returns
+returns c =
+    let weights = c .before .before in
+    let start = weights .before .before .before in
+    let responses = start .good .0 .1 .1 .1 .1 .1 .1 .1 .0 in
+    c .sum .ensures
+    ∙ rw (c .before .member-numbers .ensures, weights .weights .ensures, start .pre, weights-by, weights .before .point .ensures)
+    (phi-members (start .args .self) (start .args .u) (start .args .k) (omega (arith, responses)))
+
+pub interpolated-spec : {M : Type 1} → statement M
+interpolated-spec =
+    tie.close
+    (tie.spec
+    point-requires
+    weights-requires
+    member-numbers-requires
+    sum-requires
+    returns)

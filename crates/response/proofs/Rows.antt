@@ -1,0 +1,118 @@
+-- The response rows: what a number is tested against, and what the accepted numbers interpolate to. Assumes nothing.
+use mathlib.Core.Path.{_≡_, refl, sym, ap, ap₂, _∙_}
+use mathlib.Core.Bool.{Bool, true}
+use mathlib.Core.List.{List}
+use Prim.Native.Nat.{ℕ, _+_, _-_, _^_, _≤_, _<_}
+use native.Mathlib.Omega.{arith}
+use lib.Dec.{eqb}
+use Rattle.algebra.specs.Fold.{fold-cong}
+use Rattle.lists.specs.Tests.{pick, allTo, all-cong}
+use Rattle.sets.specs.Masks.{has}
+use Rattle.sets.specs.MaskLaws.{has-minus}
+use Rattle.field.specs.declared.Scalar.{Scalar}
+use Rattle.field.specs.declared.Element.{Element}
+use Rattle.field.specs.Definitions.{scalar, element, generator, product, raise, powered}
+use Rattle.interpolation.specs.declared.Row.{Row}
+use Rattle.interpolation.specs.Definitions.{party, slot, committedPoint}
+use Rattle.interpolation.specs.Rows.{listed, weightsOf, sumOf, productOf, elementAt-cong}
+use Rattle.interpolation.specs.Turns.{first, first-weights}
+use Rattle.records.specs.Parameters.{quorum, batch}
+use Rattle.records.specs.Bytes.{word, sender}
+use Rattle.records.specs.Laws.{Bounds, quorum-max, key-max}
+use Rattle.protocol.specs.Transcript.{keyAt, combinedAt, challengeAt, responseAt, passes}
+use Rattle.protocol.specs.Arrays.{commitmentIn, challengeIn, elements, scalars, combinedValue, memberPoints, memberNumbers}
+use Rattle.protocol.specs.ArrayLaws.{values-interpolated, challenges-interpolated, members-interpolated}
+use Rattle.protocol.specs.Combined.{combined-values}
+use Rattle.dealing.specs.declared.Setup.{Setup}
+use Rattle.dealing.specs.declared.Dealings.{Dealings}
+use Rattle.dealing.specs.Definitions.{keyOf}
+use Rattle.complaint.specs.declared.Complaints.{Complaints}
+use Rattle.complaint.specs.Definitions.{blamedBy, unblamed}
+use Rattle.response.specs.declared.Responses.{Responses}
+use Rattle.response.specs.Definitions.{transcript, phiOf}
+
+-- ---- φ
+
+pub phi-members : (n : ℕ) (p : Responses) (u k : ℕ)
+    → p .responders < 2 ^ 64
+    → sumOf (weightsOf (memberPoints n (p .responders)) (slot k)) (memberNumbers n (p .responders) (p .numbers) u)
+    ≡ phiOf n p u k
+unfolding phiOf
+phi-members n p u k l = members-interpolated n (p .responders) (p .numbers) u (slot k) l
+
+-- ---- what 4^number is compared with
+
+module _ (setup : Setup) (list : List Element) (challenges : List Scalar) (qual quorum : ℕ) (key : Element) (slots points : Row) where
+  -- C_u(x) × S_x^E_u(x), by the weights of the packed slots and of the committed points at x, and S_x
+  unfoldable pub wanted : ℕ → Element
+  wanted u =
+      product (productOf points (elements quorum (combinedValue (setup .n) (has qual) (commitmentIn list) u)))
+      (raise key (sumOf slots (scalars (setup .a) (λ v. challengeIn (setup .a) challenges u (v + 1)))))
+
+  -- number i of a record passes
+  unfoldable pub fits : List ℕ → ℕ → Bool
+  fits s i = eqb (raise generator (scalar (word s 4 i)) .0) (wanted (i + 1) .0)
+
+-- one test of the dealers for the other
+combined-same : (n : ℕ) (f g : ℕ → Bool) (commitment : ℕ → ℕ → Element) (u v : ℕ)
+    → ((i : ℕ) → f i ≡ g i)
+    → combinedValue n f commitment u v ≡ combinedValue n g commitment u v
+unfolding combinedValue
+combined-same n f g commitment u v h =
+    fold-cong product (element 1) n (λ i l. ap (λ (b : Bool). pick b (powered (commitment (i + 1) v) ((i + 1) ^ (u - 1))) (element 1)) (h (i + 1)))
+
+module _ (setup : Setup) (d : Dealings) (c : Complaints) (challenges : List Scalar) (bounds : Bounds (setup .n) (setup .t) (setup .a)) (x : Scalar) where
+  -- C_u(x), from the committed values of the dealers that nobody blames, combined for u
+  pub combined-is : (u : ℕ)
+      → productOf (weightsOf (listed (quorum (setup .t) (setup .a)) (committedPoint (setup .a))) x)
+      (elements (quorum (setup .t) (setup .a)) (combinedValue (setup .n) (has (unblamed (setup .n) c (d .dealers))) (commitmentIn (d .commitments)) u))
+      ≡ combinedAt (transcript setup d c challenges) u x
+  unfolding transcript unblamed
+  combined-is u =
+      values-interpolated (quorum (setup .t) (setup .a)) (setup .a) _ x (omega (arith, quorum-max bounds))
+      ∙ elementAt-cong (committedPoint (setup .a)) (committedPoint (setup .a)) (quorum (setup .t) (setup .a)) _ _ x (λ v l. refl)
+      (λ v l. combined-same (setup .n) _ _ _ u v (λ i. has-minus (d .dealers) (blamedBy (setup .n) c) i))
+      ∙ sym (combined-values (transcript setup d c challenges) u x)
+
+  challenge-is : (u : ℕ)
+      → sumOf (weightsOf (listed (setup .a) (λ v. slot (v + 1))) x) (scalars (setup .a) (λ v. challengeIn (setup .a) challenges u (v + 1)))
+      ≡ challengeAt (transcript setup d c challenges) u x
+  unfolding transcript challengeAt
+  challenge-is u = challenges-interpolated (setup .a) challenges u x (omega (arith, key-max bounds))
+
+  wanted-is : (u : ℕ)
+      → wanted setup (d .commitments) challenges (unblamed (setup .n) c (d .dealers)) (quorum (setup .t) (setup .a)) (keyOf setup x)
+      (weightsOf (listed (setup .a) (λ v. slot (v + 1))) x) (weightsOf (listed (quorum (setup .t) (setup .a)) (committedPoint (setup .a))) x) u
+      ≡ responseAt (transcript setup d c challenges) u x
+  unfolding wanted responseAt keyAt keyOf transcript
+  wanted-is u = ap₂ (λ (v : Element) (e : Scalar). product v (raise (keyOf setup x) e)) (combined-is u) (challenge-is u)
+
+module _ (setup : Setup) (d : Dealings) (c : Complaints) (challenges : List Scalar) (bounds : Bounds (setup .n) (setup .t) (setup .a)) (s : List ℕ) where
+  -- the numbers of a record fit where they pass for its sender
+  row-is : (n : ℕ)
+      → allTo n (fits setup (d .commitments) challenges (unblamed (setup .n) c (d .dealers)) (quorum (setup .t) (setup .a)) (keyOf setup (party (sender s)))
+      (weightsOf (listed (setup .a) (λ v. slot (v + 1))) (party (sender s))) (weightsOf (listed (quorum (setup .t) (setup .a)) (committedPoint (setup .a))) (party (sender s))) s)
+      ≡ allTo n (λ i. passes (transcript setup d c challenges) (i + 1) (sender s) (scalar (word s 4 i)))
+  unfolding fits passes
+  row-is n =
+      all-cong n _ _ (λ i l. ap (λ (v : Element). eqb (raise generator (scalar (word s 4 i)) .0) (v .0)) (wanted-is setup d c challenges bounds (party (sender s)) (i + 1)))
+
+  -- the same with what the calls answer
+  pub row-tested : {j qual need b : ℕ} {x : Scalar} {key : Element} {slotPoints slotWeights points weights : Row}
+      → j ≡ sender s
+      → x ≡ party j
+      → qual ≡ unblamed (setup .n) c (d .dealers)
+      → need ≡ quorum (setup .t) (setup .a)
+      → key ≡ keyOf setup x
+      → slotPoints ≡ listed (setup .a) (λ v. slot (v + 1))
+      → slotWeights ≡ weightsOf slotPoints x
+      → points ≡ listed need (committedPoint (setup .a))
+      → weights ≡ weightsOf points x
+      → b ≡ batch (setup .n) (setup .t)
+      → allTo b (fits setup (d .commitments) challenges qual need key slotWeights weights s)
+      ≡ allTo (batch (setup .n) (setup .t)) (λ i. passes (transcript setup d c challenges) (i + 1) (sender s) (scalar (word s 4 i)))
+  row-tested ej ex eq en ek es esw ep ew eb = rw (eb, ek, esw, ew, es, ep, ex, ej, eq, en) (row-is _)
+
+-- the weights are as many as the points
+pub all-weights : (m : ℕ) (pt : ℕ → Scalar) (x : Scalar) {points weights : Row} → m ≤ 64 → points ≡ listed m pt → weights ≡ weightsOf points x → first m weights ≡ weights
+all-weights m pt x l e f = rw (f, e) (first-weights m pt x l)

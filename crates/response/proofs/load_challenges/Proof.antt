@@ -1,0 +1,71 @@
+-- `load_challenges` meets its contract. The loop has stored the scalars passed. Assumes nothing.
+use borrow.Author.Needs.{needs}
+use native.Mathlib.Omega.{arith}
+use mathlib.Core.Logic.{⊎-elim}
+use mathlib.Core.Path.{_≡_, refl, ap}
+use Prim.Native.Nat.{_-_, _≤_}
+use lib.ListN.{length}
+use Rattle.lists.specs.Stores.{stored}
+use Rattle.field.specs.Definitions.{scalar}
+use Rattle.records.specs.Bytes.{word}
+use Rattle.lists.specs.Loads.{load-in, load-past, loaded}
+use Rattle.response.proofs.load_challenges.Statement.{statement}
+use Rattle.response.proofs.load_challenges.Tie as tie
+
+abbrev Inv-loop : tie.InvT-loop
+Inv-loop bytes count next₀ x₀ next x = (x ≤ count) × (length next₀ ≡ 512) × (next ≡ stored next₀ 0 x (λ k. scalar (word bytes 4 k)))
+
+abbrev μ-loop : tie.MeasureT-loop
+μ-loop bytes count next₀ x₀ next x = count - x
+
+loop-holds : tie.Need-loop-holds Inv-loop μ-loop
+unfolding stored
+loop-holds c = (omega arith, search needs, refl)
+
+word-requires : tie.Need-word-requires Inv-loop μ-loop
+word-requires c κs = search needs
+
+cast-next : tie.Need-cast-next Inv-loop μ-loop
+cast-next c = search needs
+
+mul-next : tie.Need-mul-next Inv-loop μ-loop
+mul-next c = search needs
+
+array-set-from-next : tie.Need-array-set-from-next Inv-loop μ-loop
+array-set-from-next c = search needs
+
+add-x : tie.Need-add-x Inv-loop μ-loop
+add-x c = search needs
+
+loop-less : tie.Need-loop-less Inv-loop μ-loop
+loop-less c = search needs
+
+loop-again : tie.Need-loop-again Inv-loop μ-loop
+loop-again c =
+    let l = c .before .before .loop in (
+      omega arith,
+      l .inv .1,
+      ⊎-elim
+          (λ w. load-in _ 0 (l .x) _ (l .inv .2) (omega arith) (ap scalar (w .1 .ensures)) (w .2))
+          (λ w. load-past _ 0 (l .x) _ (l .inv .2) (omega arith) (w .1))
+          (c .if1 .came),
+    )
+
+returns : tie.Need-returns Inv-loop μ-loop
+returns c = loaded _ 0 _ _ (c .before .loop .inv .2) (omega arith)
+
+pub load-challenges-spec : {M : Type 1} → statement M
+load-challenges-spec =
+    tie.close
+    (tie.spec
+    Inv-loop
+    μ-loop
+    loop-holds
+    word-requires
+    cast-next
+    mul-next
+    array-set-from-next
+    add-x
+    loop-less
+    loop-again
+    returns)

@@ -1,0 +1,76 @@
+-- `load_numbers` meets its contract. The loop has stored the scalars passed. Assumes nothing.
+use borrow.Author.Needs.{needs}
+use native.Mathlib.Omega.{arith}
+use mathlib.Core.Logic.{⊎-elim}
+use mathlib.Core.Path.{_≡_, refl, ap}
+use Prim.Native.Nat.{_-_, _≤_}
+use lib.ListN.{length}
+use Rattle.lists.specs.Stores.{stored}
+use Rattle.field.specs.Definitions.{scalar}
+use Rattle.records.specs.Bytes.{word}
+use Rattle.lists.specs.Loads.{load-in, load-past, loaded}
+use Rattle.response.proofs.load_numbers.Statement.{statement}
+use Rattle.response.proofs.load_numbers.Tie as tie
+
+abbrev Inv-loop : tie.InvT-loop
+Inv-loop base bytes count next₀ x₀ next x = (x ≤ count) × (length next₀ ≡ 1024) × (next ≡ stored next₀ base x (λ k. scalar (word bytes 4 k)))
+
+abbrev μ-loop : tie.MeasureT-loop
+μ-loop base bytes count next₀ x₀ next x = count - x
+
+loop-holds : tie.Need-loop-holds Inv-loop μ-loop
+unfolding stored
+loop-holds c = (omega arith, search needs, refl)
+
+cast-at : tie.Need-cast-at Inv-loop μ-loop
+cast-at c = search needs
+
+add-at : tie.Need-add-at Inv-loop μ-loop
+add-at c = search needs
+
+word-requires : tie.Need-word-requires Inv-loop μ-loop
+word-requires c κs = search needs
+
+mul-next : tie.Need-mul-next Inv-loop μ-loop
+mul-next c = search needs
+
+array-set-from-next : tie.Need-array-set-from-next Inv-loop μ-loop
+array-set-from-next c = search needs
+
+add-x : tie.Need-add-x Inv-loop μ-loop
+add-x c = search needs
+
+loop-less : tie.Need-loop-less Inv-loop μ-loop
+loop-less c = search needs
+
+loop-again : tie.Need-loop-again Inv-loop μ-loop
+loop-again c =
+    let a = c .before .before .before .before .args in
+    let l = c .before .before .loop in (
+      omega arith,
+      l .inv .1,
+      ⊎-elim
+          (λ w. load-in _ (a .base) (l .x) _ (l .inv .2) (omega arith) (ap scalar (w .1 .ensures)) (w .2))
+          (λ w. load-past _ (a .base) (l .x) _ (l .inv .2) (omega arith) (w .1))
+          (c .if1 .came),
+    )
+
+returns : tie.Need-returns Inv-loop μ-loop
+returns c = loaded _ _ _ _ (c .before .loop .inv .2) (omega arith)
+
+pub load-numbers-spec : {M : Type 1} → statement M
+load-numbers-spec =
+    tie.close
+    (tie.spec
+    Inv-loop
+    μ-loop
+    loop-holds
+    cast-at
+    add-at
+    word-requires
+    mul-next
+    array-set-from-next
+    add-x
+    loop-less
+    loop-again
+    returns)

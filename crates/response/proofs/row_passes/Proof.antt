@@ -1,0 +1,302 @@
+-- `row_passes` meets its contract. The inner loop keeps the product of value^weight over the committed points passed; the outer one has raised the
+-- powers to those of u and met no number that fails. Assumes nothing.
+use borrow.Author.Needs.{needs}
+use borrow.Author.Tests.{eq-eqb, ne-eqb}
+use native.Mathlib.Omega.{arith}
+use mathlib.Core.Path.{_≡_, refl, sym, ap, ap₂, _∙_}
+use mathlib.Core.Bool.{Bool, true, false, and-false}
+use Prim.Native.Nat.{ℕ, _+_, _-_, _≤_}
+use lib.Dec.{eqb}
+use Rattle.lists.specs.Tests.{allTo, all-next, fails-stays}
+use Rattle.field.specs.declared.Element.{Element}
+use Rattle.field.specs.Definitions.{scalar, generator, product, raise}
+use Rattle.interpolation.specs.Rows.{sumOf, productOf}
+use Rattle.interpolation.specs.Turns.{first, product-none, product-next}
+use Rattle.records.specs.Parameters.{batch}
+use Rattle.records.specs.Bytes.{word, sender}
+use Rattle.records.specs.Laws.{bounds-test, quorum-max, batch-max}
+use Rattle.protocol.specs.Transcript.{passes}
+use Rattle.protocol.specs.Arrays.{powersAt}
+use Rattle.protocol.specs.Powers.{powers-none, powers-next, combined-powers}
+use Rattle.run.specs.Runs.{transcriptOf}
+use Rattle.run.specs.RunLaws.{formed-of}
+use Rattle.response.proofs.Rows.{wanted, fits, all-weights, row-tested}
+use Rattle.response.proofs.row_passes.Statement.{statement}
+use Rattle.response.proofs.row_passes.Tie as tie
+
+abbrev Inv-loop : tie.InvT-loop
+Inv-loop bytes setup challenges qual quorum key at-slots at-points powers passed u values image₀ v₀ u-end image v =
+    (v ≤ quorum) × (image ≡ productOf (first v at-points) values)
+
+abbrev μ-loop : tie.MeasureT-loop
+μ-loop bytes setup challenges qual quorum key at-slots at-points powers passed u values image₀ v₀ u-end image v =
+    quorum - v
+
+abbrev Inv-row : tie.InvT-row
+Inv-row bytes setup challenges qual quorum key at-slots at-points powers₀ passed₀ u₀ u-end powers passed u =
+    (u ≤ u-end) × (u-end ≤ 30) × (quorum ≤ 30) × (passed ≡ true)
+    × (powers ≡ powersAt (setup .n) powers₀ u)
+    × (allTo u (fits setup powers₀ challenges qual quorum key at-slots at-points bytes) ≡ true)
+
+abbrev μ-row : tie.MeasureT-row
+μ-row bytes setup challenges qual quorum key at-slots at-points powers₀ passed₀ u₀ u-end powers passed u = u-end - u
+
+-- ---- what is known before the rows
+
+abbrev start : tie.After-batch Inv-loop μ-loop Inv-row μ-row → tie.Start Inv-loop μ-loop Inv-row μ-row
+start b = b .before .before .before .before .before .before .before .before .before .before .before .before .before .before
+
+abbrev points : tie.After-batch Inv-loop μ-loop Inv-row μ-row → tie.After-committed-points Inv-loop μ-loop Inv-row μ-row
+points b = b .before .before .before
+
+-- the code's test of a number
+abbrev fits-of : tie.After-batch Inv-loop μ-loop Inv-row μ-row → ℕ → Bool
+fits-of b =
+    let w = points b .before in
+    let key = w .before .before in
+    let q = key .before .before .before in
+    let r = start b .args .self in
+    fits (r .setup) (r .dealings .commitments) (r .challenges) (q .before .qual .result) (q .quorum .result) (key .key-at .result) (w .weights .result) (b .before .before .weights2 .result) (start b .args .bytes .now)
+
+-- it is that of the definition
+tested : (b : tie.After-batch Inv-loop μ-loop Inv-row μ-row)
+    → let r = start b .args .self in
+    let s = start b .args .bytes .now in
+    allTo (b .batch .result) (fits-of b) ≡ allTo (batch (r .setup .n) (r .setup .t)) (λ i. passes (transcriptOf r) (i + 1) (sender s) (scalar (word s 4 i)))
+tested b =
+    let w = points b .before in
+    let key = w .before .before in
+    let at = key .before in
+    let q = at .before .before in
+    row-tested (start b .args .self) (start b .args .bytes .now) (start b .pre) (at .before .byte .ensures) (at .point .ensures) (q .before .qual .ensures) (q .quorum .ensures)
+    (key .key-at .ensures) (w .before .slot-points .ensures) (w .weights .ensures) (points b .committed-points .ensures) (b .before .before .weights2 .ensures) (b .batch .ensures)
+
+-- the weights are as many as the committed points
+all-points : (b : tie.After-batch Inv-loop μ-loop Inv-row μ-row) → points b .before .before .before .before .before .before .quorum .result ≤ 64
+    → first (points b .before .before .before .before .before .before .quorum .result) (b .before .before .weights2 .result) ≡ b .before .before .weights2 .result
+all-points b l = all-weights _ _ _ l (points b .committed-points .ensures) (b .before .before .weights2 .ensures)
+
+-- ---- what is known where a number is compared
+
+abbrev turn : tie.After-struct-known2 Inv-loop μ-loop Inv-row μ-row → tie.In-row Inv-loop μ-loop Inv-row μ-row
+turn c = c .before .before .before .before .before .before .before .before .before .before .before
+
+-- what the code compares
+compared : (c : tie.After-struct-known2 Inv-loop μ-loop Inv-row μ-row)
+    → let m = c .before .before .before .before in
+    let r = turn c .before in
+    eqb (c .before .before .pow3 .result .0) (m .mul2 .result .0) ≡ fits-of (r .before) (r .row .u)
+unfolding fits wanted
+compared c =
+    let m = c .before .before .before .before in
+    let e = m .before .before .before in
+    let l = e .before .before in
+    let r = l .before .before .before in
+    let b = r .before in
+    let key = points b .before .before .before in
+    let q = key .before .before .before in
+    let end : l .loop .v ≡ q .quorum .result = omega arith in
+    let sent = c .before .before .pow3 .ensures ∙ ap (λ (x : ℕ). raise generator (scalar x)) (c .before .before .before .word .ensures) in
+    let image =
+    l .loop .inv .1
+    ∙ ap (λ (n : ℕ). productOf (first n (b .before .before .weights2 .result)) (l .before .combined-values .result)) end
+    ∙ ap₂ productOf (all-points b (omega (arith, r .row .inv .2))) (combined-powers _ _ _ (r .row .u + 1) _ (omega (arith, r .row .inv .2)) (omega arith) (r .row .inv .4) (l .before .combined-values .ensures)) in
+    let power = m .before .pow2 .ensures ∙ ap (raise (key .key-at .result)) (m .before .before .sum .ensures ∙ ap (sumOf (points b .before .weights .result)) (e .challenge-values .ensures)) in
+    ap₂ (λ (v w : Element). eqb (v .0) (w .0)) sent (m .mul2 .ensures ∙ ap₂ product image power)
+
+-- ---- the needs
+
+qual-requires : tie.Need-qual-requires Inv-loop μ-loop Inv-row μ-row
+qual-requires c κs = search needs
+
+quorum-requires : tie.Need-quorum-requires Inv-loop μ-loop Inv-row μ-row
+quorum-requires c κs = search needs
+
+cast-quorum : tie.Need-cast-quorum Inv-loop μ-loop Inv-row μ-row
+cast-quorum c =
+    let start = c .before .before .before .before .before in
+    omega (arith, quorum-max (formed-of (start .args .self) (start .pre) .bounds))
+
+byte-requires : tie.Need-byte-requires Inv-loop μ-loop Inv-row μ-row
+byte-requires c κs = search needs
+
+point-requires : tie.Need-point-requires Inv-loop μ-loop Inv-row μ-row
+point-requires c κs = search needs
+
+key-at-requires : tie.Need-key-at-requires Inv-loop μ-loop Inv-row μ-row
+key-at-requires c κs =
+    let start = c .before .before .before .before .before .before .before in
+    bounds-test (formed-of (start .args .self) (start .pre) .bounds)
+
+slot-points-requires : tie.Need-slot-points-requires Inv-loop μ-loop Inv-row μ-row
+slot-points-requires c κs = search needs
+
+weights-requires : tie.Need-weights-requires Inv-loop μ-loop Inv-row μ-row
+weights-requires c κs = search needs
+
+committed-points-requires : tie.Need-committed-points-requires Inv-loop μ-loop Inv-row μ-row
+committed-points-requires c κs = search needs
+
+weights-requires-2 : tie.Need-weights-requires-2 Inv-loop μ-loop Inv-row μ-row
+weights-requires-2 c κs = search needs
+
+batch-requires : tie.Need-batch-requires Inv-loop μ-loop Inv-row μ-row
+batch-requires c κs = search needs
+
+row-holds : tie.Need-row-holds Inv-loop μ-loop Inv-row μ-row
+unfolding allTo
+row-holds c =
+    let bounds = formed-of (start c .args .self) (start c .pre) .bounds in
+    let need = points c .before .before .before .before .before .before .quorum .ensures in
+    (omega arith, omega (arith, c .batch .ensures, batch-max bounds), omega (arith, need, quorum-max bounds), refl, powers-none _ _, refl)
+
+combined-values-requires : tie.Need-combined-values-requires Inv-loop μ-loop Inv-row μ-row
+combined-values-requires c κs = search needs
+
+loop-holds : tie.Need-loop-holds Inv-loop μ-loop Inv-row μ-row
+loop-holds c = (omega arith, sym (product-none (c .before .before .before .before .before .weights2 .result) (c .combined-values .result)))
+
+cast-value : tie.Need-cast-value Inv-loop μ-loop Inv-row μ-row
+cast-value c = search needs
+
+mul-value : tie.Need-mul-value Inv-loop μ-loop Inv-row μ-row
+mul-value c = search needs
+
+array-copy-out-value : tie.Need-array-copy-out-value Inv-loop μ-loop Inv-row μ-row
+array-copy-out-value c = search needs
+
+cast-weight : tie.Need-cast-weight Inv-loop μ-loop Inv-row μ-row
+cast-weight c = search needs
+
+mul-weight : tie.Need-mul-weight Inv-loop μ-loop Inv-row μ-row
+mul-weight c = search needs
+
+element-copy-out-weight : tie.Need-element-copy-out-weight Inv-loop μ-loop Inv-row μ-row
+element-copy-out-weight c = search needs
+
+pow-requires : tie.Need-pow-requires Inv-loop μ-loop Inv-row μ-row
+pow-requires c κs = search needs
+
+mul-requires : tie.Need-mul-requires Inv-loop μ-loop Inv-row μ-row
+mul-requires c κs = search needs
+
+add-v : tie.Need-add-v Inv-loop μ-loop Inv-row μ-row
+add-v c = search needs
+
+loop-less : tie.Need-loop-less Inv-loop μ-loop Inv-row μ-row
+loop-less c = search needs
+
+loop-again : tie.Need-loop-again Inv-loop μ-loop Inv-row μ-row
+loop-again c =
+    let l = c .before .before .before .before .before in
+    let b = l .before .before .before .before in (
+      omega arith,
+      c .mul .ensures ∙ ap₂ product (l .loop .inv .1) (c .before .pow .ensures) ∙ sym (product-next (b .before .before .weights2 .result) (l .before .combined-values .result) (l .loop .v) (omega arith)),
+    )
+
+add-challenge-values : tie.Need-add-challenge-values Inv-loop μ-loop Inv-row μ-row
+add-challenge-values c = search needs
+
+challenge-values-requires : tie.Need-challenge-values-requires Inv-loop μ-loop Inv-row μ-row
+challenge-values-requires c κs = search needs
+
+sum-requires : tie.Need-sum-requires Inv-loop μ-loop Inv-row μ-row
+sum-requires c κs = search needs
+
+pow-requires-2 : tie.Need-pow-requires-2 Inv-loop μ-loop Inv-row μ-row
+pow-requires-2 c κs = search needs
+
+mul-requires-2 : tie.Need-mul-requires-2 Inv-loop μ-loop Inv-row μ-row
+mul-requires-2 c κs = search needs
+
+cast-word : tie.Need-cast-word Inv-loop μ-loop Inv-row μ-row
+cast-word c = search needs
+
+word-requires : tie.Need-word-requires Inv-loop μ-loop Inv-row μ-row
+word-requires c κs = search needs
+
+pow-requires-3 : tie.Need-pow-requires-3 Inv-loop μ-loop Inv-row μ-row
+pow-requires-3 c κs = search needs
+
+raised-requires : tie.Need-raised-requires Inv-loop μ-loop Inv-row μ-row
+raised-requires c κs = search needs
+
+add-u : tie.Need-add-u Inv-loop μ-loop Inv-row μ-row
+add-u c = search needs
+
+row-less : tie.Need-row-less Inv-loop μ-loop Inv-row μ-row
+row-less c = search needs
+
+row-again : tie.Need-row-again Inv-loop μ-loop Inv-row μ-row
+row-again c =
+    let k = c .before .before in
+    let r = turn k .before in
+    let good = sym (compared k) ∙ eq-eqb _ _ (c .before .if1 .left) in (
+      omega (arith, turn k .row-test .taken),
+      r .row .inv .1,
+      r .row .inv .2,
+      r .row .inv .3,
+      powers-next _ _ (r .row .u) (r .row .inv .4) (c .raised .ensures),
+      all-next (r .row .u) (fits-of (r .before)) ∙ rw (r .row .inv .5, good),
+    )
+
+returns : tie.Need-returns Inv-loop μ-loop Inv-row μ-row
+returns c =
+    let r = c .before in
+    let end : r .row .u ≡ r .before .batch .result = omega arith in
+    r .row .inv .3 ∙ sym (rw end at (r .row .inv .5)) ∙ tested (r .before)
+
+returns-2 : tie.Need-returns-2 Inv-loop μ-loop Inv-row μ-row
+returns-2 c =
+    let r = turn (c .before) .before in
+    let bad = sym (compared (c .before)) ∙ ne-eqb _ _ (c .if1 .taken) in
+    let fails : allTo (r .row .u + 1) (fits-of (r .before)) ≡ false = all-next (r .row .u) (fits-of (r .before)) ∙ rw (bad, and-false) in
+    sym (fails-stays (fits-of (r .before)) (r .row .u + 1) (r .before .batch .result) (omega (arith, turn (c .before) .row-test .taken)) fails) ∙ tested (r .before)
+
+pub row-passes-spec : {M : Type 1} → statement M
+row-passes-spec =
+    tie.close
+    (tie.spec
+    Inv-loop
+    μ-loop
+    Inv-row
+    μ-row
+    qual-requires
+    quorum-requires
+    cast-quorum
+    byte-requires
+    point-requires
+    key-at-requires
+    slot-points-requires
+    weights-requires
+    committed-points-requires
+    weights-requires-2
+    batch-requires
+    row-holds
+    combined-values-requires
+    loop-holds
+    cast-value
+    mul-value
+    array-copy-out-value
+    cast-weight
+    mul-weight
+    element-copy-out-weight
+    pow-requires
+    mul-requires
+    add-v
+    loop-less
+    loop-again
+    add-challenge-values
+    challenge-values-requires
+    sum-requires
+    pow-requires-2
+    mul-requires-2
+    cast-word
+    word-requires
+    pow-requires-3
+    raised-requires
+    add-u
+    row-less
+    row-again
+    returns
+    returns-2)

@@ -1,0 +1,73 @@
+-- The challenges and the accepted response rows (document 01, "The run"): when a row is taken, what is kept of it, and φ.
+use Prim.Native.Nat.{ℕ, _+_, _*_, _-_, _/_, _%_}
+use mathlib.Core.Bool.{not, _&&_}
+use mathlib.Core.List.{List}
+use lib.ListN.{length, getD}
+use Rattle.lists.specs.Tests.{allTo, require, orNext}
+use Rattle.lists.specs.Stores.{stored, filled}
+use Rattle.sets.specs.Masks.{has, insert, members}
+use Rattle.field.specs.declared.Scalar.{Scalar}
+use Rattle.field.specs.Definitions.{scalar, element}
+use Rattle.interpolation.specs.Definitions.{party, slot, scalarAt}
+use Rattle.records.specs.Parameters.{batch}
+use Rattle.records.specs.Bytes.{word, sender}
+use Rattle.records.specs.Refusals.{responseRefusal}
+use Rattle.protocol.specs.Transcript.{Transcript, passes}
+use Rattle.protocol.specs.Arrays.{base, commitmentIn, challengeIn}
+use Rattle.dealing.specs.declared.Setup.{Setup}
+use Rattle.dealing.specs.declared.Dealings.{Dealings}
+use Rattle.complaint.specs.declared.Complaints.{Complaints}
+use Rattle.complaint.specs.Definitions.{blamedBy}
+use Rattle.response.specs.declared.Responses.{Responses}
+
+-- ---- the public values of a committee, from what is kept
+
+unfoldable pub transcript : Setup → Dealings → Complaints → List Scalar → Transcript
+transcript setup d c challenges =
+    record {
+      n = setup .n;
+      t = setup .t;
+      a = setup .a;
+      key = λ j. getD (setup .key) j (element 0);
+      qual = λ i. has (d .dealers) i && not (has (blamedBy (setup .n) c) i);
+      commitment = commitmentIn (d .commitments);
+      challenge = challengeIn (setup .a) challenges;
+    }
+
+-- ---- the response rows
+
+unfoldable pub noResponses : Responses
+noResponses = record { count = 0; responders = 0; numbers = filled 1024 (scalar 0) }
+
+-- the refusal of an RE at stage 4: 12, then 14, then 15, after those from the input
+unfoldable pub responseNumber : Setup → Dealings → Complaints → List Scalar → Responses → List ℕ → ℕ
+responseNumber setup d c challenges p s =
+    orNext (responseRefusal (setup .n) (setup .t) s)
+    (require (not (has (p .responders) (sender s))) 12
+    (require (has (c .holders) (sender s)) 14
+    (require (allTo (batch (setup .n) (setup .t)) (λ x. passes (transcript setup d c challenges) (x + 1) (sender s) (scalar (word s 4 x)))) 15 0)))
+
+unfoldable pub withResponse : Setup → Responses → List ℕ → Responses
+withResponse setup p s =
+    record {
+      count = p .count + 1;
+      responders = insert (p .responders) (sender s);
+      numbers = stored (p .numbers) (base (sender s)) (batch (setup .n) (setup .t)) (λ x. scalar (word s 4 x));
+    }
+
+-- ---- φ
+
+-- the senders of the accepted rows, rising
+abbrev pub respondersOf : ℕ → Responses → List ℕ
+respondersOf n p = members n (has (p .responders))
+
+-- the accepted response numbers for u, interpolated at packed slot k
+unfoldable pub phiOf : ℕ → Responses → ℕ → ℕ → Scalar
+phiOf n p u k =
+    scalarAt (λ i. party (getD (respondersOf n p) i 0)) (length (respondersOf n p))
+    (λ i. getD (p .numbers) (base (getD (respondersOf n p) i 0) + (u - 1)) (scalar 0)) (slot k)
+
+-- a list with every φ(u,k), u outer
+unfoldable pub signaturesOf : Setup → Responses → List Scalar → List Scalar
+signaturesOf setup p list =
+    stored list 0 (setup .a * batch (setup .n) (setup .t)) (λ x. phiOf (setup .n) p (x / setup .a + 1) (x % setup .a + 1))

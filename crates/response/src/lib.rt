@@ -1,0 +1,196 @@
+// The challenges and the accepted response rows: the test of a row, what one more adds, and φ and R from what is kept.
+ghost use mathlib.Core.Path.{_≡_};
+ghost use mathlib.Core.Bool.{true};
+ghost use mathlib.Core.List.{List};
+ghost use Prim.Native.Nat.{_+_, _*_, _≤_};
+ghost use Rattle.lists.specs.Tests.{allTo};
+ghost use Rattle.lists.specs.Stores.{stored};
+ghost use Rattle.field.specs.declared.Scalar.{Scalar};
+ghost use Rattle.field.specs.Definitions.{scalar};
+ghost use Rattle.records.specs.Parameters.{inBounds, batch};
+ghost use Rattle.records.specs.Bytes.{word, sender};
+ghost use Rattle.protocol.specs.Transcript.{combinedAt, passes};
+ghost use Rattle.interpolation.specs.Rows.{basisOf};
+ghost use Rattle.protocol.specs.Arrays.{memberPoints};
+ghost use Rattle.response.specs.Definitions.{transcript, responseNumber, withResponse, phiOf, signaturesOf};
+use complaint::Complaints;
+use dealing::Dealings;
+use dealing::Setup;
+use field::Element;
+use field::Scalar;
+use interpolation::Basis;
+
+// The accepted response rows. Holder j's numbers stand from (j - 1) × 32.
+pub struct Responses {
+    pub count: u8,
+    pub responders: u64,
+    pub numbers: [Scalar; 1024],
+}
+
+// The list with a record's challenges.
+pub fn load_challenges(list: [Scalar; 512], bytes: &[u8], count: u16) -> [Scalar; 512]
+    ensures { λ r. ⌜ r ≡ stored list 0 count (λ x. scalar (word (now (bytes .entry)) 4 x)) ⌝ }
+{
+    let mut next = list;
+    for x in 0..count {
+        if x < 512 {
+            next[x as usize] = Scalar(records::word(bytes, 4, x));
+        }
+    }
+    next
+}
+
+// The list with a row's response numbers from a place on.
+fn load_numbers(list: [Scalar; 1024], base: u16, bytes: &[u8], count: u16) -> [Scalar; 1024]
+    ensures { λ r. ⌜ r ≡ stored list base count (λ x. scalar (word (now (bytes .entry)) 4 x)) ⌝ }
+{
+    let mut next = list;
+    for x in 0..count {
+        let at = base as usize + x as usize;
+        if at < 1024 {
+            next[at] = Scalar(records::word(bytes, 4, x));
+        }
+    }
+    next
+}
+
+// Whether every response number of a row passes. The first that fails ends the row.
+fn row_passes(
+    setup: Setup,
+    dealings: Dealings,
+    complaints: Complaints,
+    challenges: [Scalar; 512],
+    bytes: &[u8],
+) -> bool
+    requires { ⌜ inBounds (setup .n) (setup .t) (setup .a) ≡ true ⌝ }
+    ensures { λ r. ⌜ r ≡ allTo (batch (setup .n) (setup .t)) (λ x. passes (transcript setup dealings complaints challenges) (x + 1) (sender (now (bytes .entry))) (scalar (word (now (bytes .entry)) 4 x))) ⌝ }
+{
+    let qual = complaints.unblamed(setup.n, dealings.dealers);
+    let quorum = records::quorum(setup.t, setup.a) as u8;
+    let x = interpolation::point(records::byte(bytes, 2), 0);
+    let key = setup.key_at(x);
+    let at_slots = interpolation::slot_points(setup.a).weights(x);
+    let at_points = interpolation::committed_points(setup.a, quorum).weights(x);
+    let mut powers = dealings.commitments;
+    let mut passed = true;
+    'row: for u in 0..records::batch(setup.n, setup.t) {
+        let values = protocol::combined_values(powers, qual, setup.n, quorum);
+        let mut image = Element::ONE;
+        for v in 0..quorum {
+            let value = values[v as usize];
+            let weight = at_points.at[v as usize];
+            image = image.mul(value.pow(weight));
+        }
+        let challenge = at_slots.sum(protocol::challenge_values(challenges, setup.a, u + 1));
+        let wanted = image.mul(key.pow(challenge));
+        let sent = Element::GENERATOR.pow(Scalar(records::word(bytes, 4, u as u16)));
+        if sent.0 != wanted.0 {
+            passed = false;
+            break 'row;
+        }
+        let next = protocol::raised(powers, setup.n);
+        powers = next;
+    }
+    passed
+}
+
+// R(u,k) at the point 1-k, and C_u(j) at j, whatever the challenges.
+pub fn combined_at(
+    setup: Setup,
+    dealings: Dealings,
+    complaints: Complaints,
+    u: u8,
+    x: Scalar,
+) -> Element
+    requires { ⌜ inBounds (setup .n) (setup .t) (setup .a) ≡ true ⌝ }
+    ensures { λ r. ⌜ ((challenges : List Scalar) → r ≡ combinedAt (transcript setup dealings complaints challenges) u x) ⌝ }
+{
+    let n = setup.n;
+    let list = dealings.commitments;
+    let quorum = records::quorum(setup.t, setup.a) as u8;
+    let powers = protocol::powers_at(list, n, u);
+    let qual = complaints.unblamed(n, dealings.dealers);
+    let values = protocol::combined_values(powers, qual, n, quorum);
+    interpolation::committed_points(setup.a, quorum)
+        .weights(x)
+        .product(values)
+}
+
+impl Responses {
+    // The refusal of a response row, or 0.
+    pub fn number(
+        self,
+        setup: Setup,
+        dealings: Dealings,
+        complaints: Complaints,
+        challenges: [Scalar; 512],
+        bytes: &[u8],
+    ) -> u8
+        requires { ⌜ inBounds (setup .n) (setup .t) (setup .a) ≡ true ⌝ }
+        ensures { λ r. ⌜ r ≡ responseNumber setup dealings complaints challenges self (now (bytes .entry)) ⌝ }
+    {
+        let number = records::response_refusal(setup.n, setup.t, bytes);
+        if number != 0 {
+            return number;
+        }
+        let j = records::byte(bytes, 2);
+        if sets::has(self.responders, j) {
+            return 12;
+        }
+        if !sets::has(complaints.holders, j) {
+            return 14;
+        }
+        if !row_passes(setup, dealings, complaints, challenges, bytes) {
+            return 15;
+        }
+        0
+    }
+
+    // With one more response row.
+    pub fn with(self, setup: Setup, bytes: &[u8]) -> Responses
+        requires { ⌜ self .count ≤ 64 ⌝ }
+        ensures { λ r. ⌜ r ≡ withResponse setup self (now (bytes .entry)) ⌝ }
+    {
+        let j = records::byte(bytes, 2);
+        let before = if 0 < j { j - 1 } else { 0 };
+        let list = self.numbers;
+        let count = records::batch(setup.n, setup.t) as u16;
+        let numbers = load_numbers(list, before as u16 * 32, bytes, count);
+        let answers = self.count + 1;
+        Responses {
+            count: answers,
+            responders: sets::insert(self.responders, j),
+            numbers: numbers,
+        }
+    }
+
+    // φ(u,k) from the accepted response rows, by the basis of their senders.
+    fn interpolated(self, n: u8, basis: Basis, u: u8, k: u8) -> Scalar
+        requires { ⌜ basis ≡ basisOf (memberPoints n (self .responders)) ⌝ }
+        ensures { λ r. ⌜ r ≡ phiOf n self u k ⌝ }
+    {
+        let set = self.responders;
+        let numbers = self.numbers;
+        basis
+            .weights(interpolation::point(1, k))
+            .sum(protocol::member_numbers(n, set, numbers, u))
+    }
+
+    // The list with every φ, u outer.
+    pub fn signatures(self, setup: Setup, list: [Scalar; 512]) -> [Scalar; 512]
+        requires { ⌜ inBounds (setup .n) (setup .t) (setup .a) ≡ true ⌝ }
+        ensures { λ r. ⌜ r ≡ signaturesOf setup self list ⌝ }
+    {
+        let a = setup.a;
+        let basis = protocol::member_points(setup.n, self.responders).basis();
+        let mut signatures = list;
+        let count = a as u16 * records::batch(setup.n, setup.t) as u16;
+        for x in 0..count {
+            let u = (x / a as u16 + 1) as u8;
+            let k = (x % a as u16 + 1) as u8;
+            let phi = self.interpolated(setup.n, basis, u, k);
+            signatures[x as usize] = phi;
+        }
+        signatures
+    }
+}
