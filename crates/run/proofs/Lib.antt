@@ -1,6 +1,2 @@
-pub mod Blames
-pub mod Loads
 pub mod Numbers
-pub mod Rows
-pub mod Shares
 pub mod Stages

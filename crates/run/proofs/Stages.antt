@@ -1,55 +1,59 @@
--- A tag by its code, and a record at its stage or at another. Assumes nothing.
-use mathlib.Core.Path.{_≡_, refl, sym, ap, _∙_}
+-- A record by its tag's code and the stage: which handler takes it, and that a run past stage 0 is well formed there. Assumes nothing.
+use mathlib.Core.Path.{_≡_, refl, ap, ap₂, _∙_}
+use mathlib.Core.Bool.{true}
 use mathlib.Core.List.{List}
-use Prim.Native.Nat.{ℕ}
+use Prim.Native.Nat.{ℕ, _<_}
+use native.Mathlib.Omega.{arith}
 use lib.Dec.{eqb}
-use Rattle.lists.specs.Tests.{pick}
-use Rattle.lists.specs.Calls.{is, is-not}
-use Rattle.records.specs.Tags.{Tag, SU, DE, VE, CH, RE, unknown, code, tagOf}
+use borrow.Author.Tests.{eqb-true}
+use Rattle.lists.specs.Tests.{pick-case}
+use Rattle.records.specs.Tags.{Tag, SU, DE, VE, CH, RE, unknown, code, decoded, tagOf}
+use Rattle.records.specs.Laws.{decoded-code}
 use Rattle.run.specs.declared.Run.{Run}
-use Rattle.run.specs.Runs.{stageOf}
-use Rattle.run.specs.Steps.{refused, answered, taken, stepAt, stepOf}
+use Rattle.run.specs.declared.Handler.{Handler}
+use Rattle.run.specs.declared.Handler.the-variants.{TakeSetup, TakeDealing, TakeComplaint, TakeChallenges, TakeResponse, Refuse}
+use Rattle.run.specs.Runs.{wellFormed, stageOf}
+use Rattle.run.specs.RunLaws.{stage-live}
+use Rattle.run.specs.Steps.{takenAt, atStage, handlerAt, handled, stepOf, refusalOf, untaken}
 
--- ---- tags
+-- taken past stage 0
+abbrev pub Past : Handler → Type 0
+Past TakeSetup = ⊥
+Past TakeDealing = Unit
+Past TakeComplaint = Unit
+Past TakeChallenges = Unit
+Past TakeResponse = Unit
+Past (Refuse k) = ⊥
 
--- the tag that a code stands for
-abbrev decoded : ℕ → Tag
-decoded k = pick (eqb k 1) SU (pick (eqb k 2) DE (pick (eqb k 3) VE (pick (eqb k 4) CH (pick (eqb k 5) RE unknown))))
+past-at : (g : Tag) (stage : ℕ) (h : Handler) → (Past h → (0 < takenAt g) × (takenAt g < 6)) → Past (atStage g stage h) → (0 < stage) × (stage < 6)
+unfolding atStage
+past-at g stage h f =
+    pick-case (λ (a : Handler). Past a → (0 < stage) × (stage < 6)) (eqb stage (takenAt g)) h (Refuse 11)
+    (λ e p. let at = eqb-true stage (takenAt g) e in let b = f p in (omega arith, omega arith)) (λ e p. absurd p)
 
-decoded-code : (t : Tag) → decoded (code t) ≡ t
-decoded-code SU = refl
-decoded-code DE = refl
-decoded-code VE = refl
-decoded-code CH = refl
-decoded-code RE = refl
-decoded-code unknown = refl
+past-stage : (g : Tag) (stage : ℕ) → Past (handlerAt g stage) → (0 < stage) × (stage < 6)
+unfolding handlerAt takenAt
+past-stage SU stage = past-at SU stage TakeSetup (λ p. absurd p)
+past-stage DE stage = past-at DE stage TakeDealing (λ p. (omega arith, omega arith))
+past-stage VE stage = past-at VE stage TakeComplaint (λ p. (omega arith, omega arith))
+past-stage CH stage = past-at CH stage TakeChallenges (λ p. (omega arith, omega arith))
+past-stage RE stage = past-at RE stage TakeResponse (λ p. (omega arith, omega arith))
+past-stage unknown stage = λ p. absurd p
 
--- the tag of a record, from what the code answers
-pub step-tag : (t : Tag) (r : Run) (s : List ℕ) {c : ℕ} → c ≡ code (tagOf s) → c ≡ code t → stepOf r s ≡ stepAt t r s
-unfolding stepOf
-step-tag t r s e d = ap (λ (t : Tag). stepAt t r s) (sym (decoded-code (tagOf s)) ∙ ap decoded (sym e ∙ d) ∙ decoded-code t)
+-- from what the calls answer
+module _ (r : Run) (s : List ℕ) {h : Handler} {c stage : ℕ} (by : h ≡ handlerAt (decoded c) stage) (tag : c ≡ code (tagOf s)) (at : stage ≡ stageOf r) where
+  handler-is : h ≡ handlerAt (tagOf s) (stageOf r)
+  handler-is = by ∙ ap₂ handlerAt (ap decoded tag ∙ decoded-code (tagOf s)) at
 
-none-of : (t : Tag) → (code t ≡ 1 → ⊥) → (code t ≡ 2 → ⊥) → (code t ≡ 3 → ⊥) → (code t ≡ 4 → ⊥) → (code t ≡ 5 → ⊥) → t ≡ unknown
-none-of SU a b c d e = absurd (a refl)
-none-of DE a b c d e = absurd (b refl)
-none-of VE a b c d e = absurd (c refl)
-none-of CH a b c d e = absurd (d refl)
-none-of RE a b c d e = absurd (e refl)
-none-of unknown a b c d e = refl
+  pub step-by : handled h r s ≡ stepOf r s
+  unfolding stepOf
+  step-by = ap (λ (a : Handler). handled a r s) handler-is
 
-pub step-unknown : (r : Run) (s : List ℕ) {c : ℕ} → c ≡ code (tagOf s)
-    → (c ≡ 1 → ⊥) → (c ≡ 2 → ⊥) → (c ≡ 3 → ⊥) → (c ≡ 4 → ⊥) → (c ≡ 5 → ⊥) → stepOf r s ≡ refused r 1
-unfolding stepOf stepAt
-step-unknown r s e a b c d f =
-    ap (λ (t : Tag). stepAt t r s) (none-of (tagOf s) (λ x. a (e ∙ x)) (λ x. b (e ∙ x)) (λ x. c (e ∙ x)) (λ x. d (e ∙ x)) (λ x. f (e ∙ x)))
+  pub untaken-by : refusalOf h ≡ untaken r s
+  unfolding untaken
+  untaken-by = ap refusalOf handler-is
 
--- ---- stages
-
-module _ (g : ℕ) (r : Run) (k : ℕ) (next : Run) {stage : ℕ} (e : stage ≡ stageOf r) where
-  pub taken-at : stage ≡ g → taken g r k next ≡ answered r k next
-  unfolding taken
-  taken-at h = rw (is e h)
-
-  pub taken-not : (stage ≡ g → ⊥) → taken g r k next ≡ refused r 11
-  unfolding taken
-  taken-not h = rw (is-not e h)
+  pub formed-by : Past h → wellFormed r ≡ true
+  formed-by p =
+      let live = past-stage (tagOf s) (stageOf r) (rw handler-is at p) in
+      stage-live r (stageOf r) refl (live .0) (live .1) .1

@@ -11,12 +11,17 @@ use Rattle.sets.specs.Masks.{has, count}
 use Rattle.records.specs.Parameters.{mostParties, quorum}
 use Rattle.records.specs.Bytes.{byteAt}
 use Rattle.records.specs.Tags.{Tag, SU, DE, VE, CH, RE, unknown, tagOf}
-use Rattle.records.specs.Refusals.{setupRefusal}
+use Rattle.records.specs.Refusals.{setupRefusal, challengesRefusal}
 use Rattle.records.specs.Laws.{Bounds, setup-passed, quorum-pos}
 use Rattle.run.specs.declared.Run.{Run}
 use Rattle.run.specs.declared.Reply.{Reply}
-use Rattle.run.specs.Runs.{noSetup, noDealings, noComplaints, noResponses, begun, fresh, stageOf}
-use Rattle.run.specs.Steps.{setupOf, afterSetup, dealingNumber, withDealing, afterDealing, complaintNumber, withComplaint, complaintStage, afterComplaint, challengesNumber, afterChallenges, responseNumber, withResponse, withRow, finished, afterResponse, refused, answered, taken, stepAt, stepOf, afterFrom}
+use Rattle.dealing.specs.Definitions.{noSetup, noDealings, setupOf, withDealing, dealingNumber}
+use Rattle.complaint.specs.Definitions.{noComplaints, blamedBy, withComplaint, complaintStage, complaintNumber}
+use Rattle.response.specs.Definitions.{noResponses, withResponse, responseNumber}
+use Rattle.run.specs.Runs.{begun, fresh, stageOf}
+use Rattle.run.specs.declared.Handler.{Handler}
+use Rattle.run.specs.declared.Handler.the-variants.{TakeSetup, TakeDealing, TakeComplaint, TakeChallenges, TakeResponse, Refuse}
+use Rattle.run.specs.Steps.{afterSetup, afterDealing, afterComplaint, afterChallenges, withRow, finished, afterResponse, refused, answered, takenAt, atStage, handlerAt, handled, stepOf, afterFrom}
 use Rattle.run.specs.RunLaws.{Formed, stage-live}
 
 pub record Regular (r : Run) : Type 0 where
@@ -48,7 +53,7 @@ unfolding afterSetup setupOf begun noDealings noComplaints noResponses
 regular-setup s b =
     record {
       parties = b .n-max;
-      formed = λ p. record { bounds = b; dealings-max = omega arith; complaints-max = omega arith; responses-max = omega arith };
+      formed = λ p. record { stage-max = omega arith; bounds = b; dealings-max = omega arith; complaints-max = omega arith; responses-max = omega arith };
       dealing = λ e. omega arith;
       complaints-none = λ l. refl;
       complaining = λ e. absurd (omega arith);
@@ -59,9 +64,10 @@ regular-setup s b =
 -- the stage that a complaint row brings: 2 while more are to come
 row-stage : (m end : ℕ) (many : Bool) →
     let g : ℕ = pick (eqb m end) (pick many 6 3) 2 in
-    (2 ≤ g) × (g ≡ 2 → m ≡ end → ⊥)
+    ((2 ≤ g) × (g ≤ 6)) × (g ≡ 2 → m ≡ end → ⊥)
 row-stage m end many = (
-  pick-case (λ (g : ℕ). 2 ≤ g) (eqb m end) (pick many 6 3) 2 (λ y. pick-case (λ (g : ℕ). 2 ≤ g) many 6 3 (λ z. omega arith) (λ z. omega arith)) (λ y. omega arith),
+  pick-case (λ (g : ℕ). (2 ≤ g) × (g ≤ 6)) (eqb m end) (pick many 6 3) 2
+      (λ y. pick-case (λ (g : ℕ). (2 ≤ g) × (g ≤ 6)) many 6 3 (λ z. (omega arith, omega arith)) (λ z. (omega arith, omega arith))) (λ y. (omega arith, omega arith)),
   pick-case (λ (g : ℕ). g ≡ 2 → m ≡ end → ⊥) (eqb m end) (pick many 6 3) 2
       (λ y. pick-case (λ (g : ℕ). g ≡ 2 → m ≡ end → ⊥) many 6 3 (λ z g e. omega arith) (λ z g e. omega arith))
       (λ y g e. eqb-false m end y e),
@@ -72,13 +78,13 @@ unfolding quorum
 quorum-parties b = omega arith
 
 -- past stage 3 only the responses still count
-regular-past : (r : Run) → 3 < r .stage → Bounds (r .setup .n) (r .setup .t) (r .setup .a)
+regular-past : (r : Run) → 3 < r .stage → r .stage ≤ 6 → Bounds (r .setup .n) (r .setup .t) (r .setup .a)
     → r .dealings .count ≤ r .setup .n → r .complaints .count ≤ r .setup .n → r .responses .count ≤ r .setup .n
     → (r .stage ≡ 4 → r .responses .count < quorum (r .setup .t) (r .setup .a)) → Regular r
-regular-past r past bounds dealings complaints responses few =
+regular-past r past most bounds dealings complaints responses few =
     record {
       parties = bounds .n-max;
-      formed = λ p. record { bounds = bounds; dealings-max = dealings; complaints-max = complaints; responses-max = responses };
+      formed = λ p. record { stage-max = most; bounds = bounds; dealings-max = dealings; complaints-max = complaints; responses-max = responses };
       dealing = λ y. absurd (omega arith);
       complaints-none = λ y. absurd (omega arith);
       complaining = λ y. absurd (omega arith);
@@ -97,7 +103,7 @@ module _ (r : Run) (h : Regular r) where
       let bounds = f .bounds in
       record {
         parties = h .parties;
-        formed = λ p. record { bounds = bounds; dealings-max = omega arith; complaints-max = omega arith; responses-max = omega arith };
+        formed = λ p. record { stage-max = pick-case (λ (g : ℕ). g ≤ 6) (eqb (r .dealings .count + 1) (r .setup .n - r .setup .t)) 2 1 (λ y. omega arith) (λ y. omega arith); bounds = bounds; dealings-max = omega arith; complaints-max = omega arith; responses-max = omega arith };
         dealing =
             pick-case (λ g. g ≡ 1 → r .dealings .count + 1 < r .setup .n - r .setup .t) (eqb (r .dealings .count + 1) (r .setup .n - r .setup .t)) 2 1
             (λ y g. absurd (omega arith)) (λ y g. omega (arith, eqb-false (r .dealings .count + 1) (r .setup .n - r .setup .t) y));
@@ -114,12 +120,12 @@ module _ (r : Run) (h : Regular r) where
       let few = h .complaining e in
       let silent = h .responses-none (omega arith) in
       let bounds = f .bounds in
-      let g = row-stage (r .complaints .count + 1) (r .setup .n - r .setup .t) (ltb (r .setup .t) (count (r .setup .n) (has (withComplaint (r .complaints) s .blamed)))) in
+      let g = row-stage (r .complaints .count + 1) (r .setup .n - r .setup .t) (ltb (r .setup .t) (count (r .setup .n) (has (blamedBy (r .setup .n) (withComplaint (r .complaints) s))))) in
       record {
         parties = h .parties;
-        formed = λ p. record { bounds = bounds; dealings-max = f .dealings-max; complaints-max = omega arith; responses-max = f .responses-max };
-        dealing = λ y. absurd (omega (arith, g .0));
-        complaints-none = λ y. absurd (omega (arith, g .0));
+        formed = λ p. record { stage-max = g .0 .1; bounds = bounds; dealings-max = f .dealings-max; complaints-max = omega arith; responses-max = f .responses-max };
+        dealing = λ y. absurd (omega (arith, g .0 .0));
+        complaints-none = λ y. absurd (omega (arith, g .0 .0));
         complaining = λ y. omega (arith, g .1 y);
         responses-none = λ y. silent;
         responding = λ y. omega (arith, quorum-pos bounds);
@@ -130,21 +136,21 @@ module _ (r : Run) (h : Regular r) where
   regular-challenges s e =
       let f = h .formed (omega arith) in
       let silent = h .responses-none (omega arith) in
-      regular-past _ (omega arith) (f .bounds) (f .dealings-max) (f .complaints-max) (f .responses-max) (λ y. omega (arith, quorum-pos (f .bounds)))
+      regular-past _ (omega arith) (omega arith) (f .bounds) (f .dealings-max) (f .complaints-max) (f .responses-max) (λ y. omega (arith, quorum-pos (f .bounds)))
 
   regular-row : (s : List ℕ) → r .stage ≡ 4 → (r .responses .count + 1 ≡ quorum (r .setup .t) (r .setup .a) → ⊥) → Regular (withRow r s)
   unfolding withRow withResponse
   regular-row s e d =
       let f = h .formed (omega arith) in
       let few = h .responding e in
-      regular-past _ (omega arith) (f .bounds) (f .dealings-max) (f .complaints-max) (omega (arith, quorum-parties (f .bounds))) (λ y. omega arith)
+      regular-past _ (omega arith) (omega arith) (f .bounds) (f .dealings-max) (f .complaints-max) (omega (arith, quorum-parties (f .bounds))) (λ y. omega arith)
 
   regular-finished : (s : List ℕ) → r .stage ≡ 4 → Regular (finished (withRow r s))
   unfolding finished withRow withResponse
   regular-finished s e =
       let f = h .formed (omega arith) in
       let few = h .responding e in
-      regular-past _ (omega arith) (f .bounds) (f .dealings-max) (f .complaints-max) (omega (arith, quorum-parties (f .bounds))) (λ y. absurd (omega arith))
+      regular-past _ (omega arith) (omega arith) (f .bounds) (f .dealings-max) (f .complaints-max) (omega (arith, quorum-parties (f .bounds))) (λ y. absurd (omega arith))
 
   regular-response : (s : List ℕ) → r .stage ≡ 4 → Regular (afterResponse r s)
   unfolding afterResponse
@@ -154,26 +160,32 @@ module _ (r : Run) (h : Regular r) where
 
   -- ---- the step
 
-  -- what is taken at its stage, or refused
-  regular-taken : (g k : ℕ) (next : Run) → (stageOf r ≡ g → k ≡ 0 → Regular next) → Regular (taken g r k next .run)
-  unfolding taken
-  regular-taken g k next f =
-      pick-case (λ (y : Reply). Regular (y .run)) (eqb (stageOf r) g) (answered r k next) (refused r 11)
-      (λ y. pick-case (λ (z : Reply). Regular (z .run)) (eqb k 0) (record { run = next; number = 0 }) (refused r k) (λ z. f (eqb-true _ _ y) (eqb-true _ _ z)) (λ z. h))
-      (λ y. h)
+  -- what is answered at its stage: a refusal, or the next run
+  regular-answered : (k : ℕ) (next : Run) → (k ≡ 0 → Regular next) → Regular (answered r k next .run)
+  regular-answered k next f =
+      pick-case (λ (y : Reply). Regular (y .run)) (eqb k 0) (record { run = next; number = 0 }) (refused r k) (λ y. f (eqb-true _ _ y)) (λ y. h)
 
-  regular-at : (tag : Tag) (s : List ℕ) → Regular (stepAt tag r s .run)
-  unfolding stepAt
-  regular-at SU s = regular-taken 0 (setupRefusal s) (afterSetup s) (λ e k. regular-setup s (setup-passed s k .bounds))
-  regular-at DE s = regular-taken 1 (dealingNumber r s) (afterDealing r s) (λ e k. regular-dealing s (stage-live r 1 e (omega arith) (omega arith) .0))
-  regular-at VE s = regular-taken 2 (complaintNumber r s) (afterComplaint r s) (λ e k. regular-complaint s (stage-live r 2 e (omega arith) (omega arith) .0))
-  regular-at CH s = regular-taken 3 (challengesNumber r s) (afterChallenges r s) (λ e k. regular-challenges s (stage-live r 3 e (omega arith) (omega arith) .0))
-  regular-at RE s = regular-taken 4 (responseNumber r s) (afterResponse r s) (λ e k. regular-response s (stage-live r 4 e (omega arith) (omega arith) .0))
-  regular-at unknown s = h
+  -- a record at the stage that takes its tag, or at another
+  regular-at : (g : Tag) (a : Handler) (s : List ℕ) → (stageOf r ≡ takenAt g → Regular (handled a r s .run)) → Regular (handled (atStage g (stageOf r) a) r s .run)
+  unfolding atStage handled
+  regular-at g a s f = pick-case (λ (y : Handler). Regular (handled y r s .run)) (eqb (stageOf r) (takenAt g)) a (Refuse 11) (λ y. f (eqb-true _ _ y)) (λ y. h)
+
+  -- past stage 0 the stage is kept as it stands
+  kept-stage : (g : ℕ) → 0 < g → g < 6 → stageOf r ≡ g → r .stage ≡ g
+  kept-stage g p l e = stage-live r g e p l .0
+
+  regular-tag : (g : Tag) (s : List ℕ) → Regular (handled (handlerAt g (stageOf r)) r s .run)
+  unfolding handlerAt handled takenAt
+  regular-tag SU s = regular-at SU TakeSetup s (λ e. regular-answered (setupRefusal s) (afterSetup s) (λ k. regular-setup s (setup-passed s k .bounds)))
+  regular-tag DE s = regular-at DE TakeDealing s (λ e. regular-answered (dealingNumber (r .setup) (r .dealings) s) (afterDealing r s) (λ k. regular-dealing s (kept-stage 1 (omega arith) (omega arith) e)))
+  regular-tag VE s = regular-at VE TakeComplaint s (λ e. regular-answered (complaintNumber (r .setup) (r .dealings) (r .complaints) s) (afterComplaint r s) (λ k. regular-complaint s (kept-stage 2 (omega arith) (omega arith) e)))
+  regular-tag CH s = regular-at CH TakeChallenges s (λ e. regular-answered (challengesRefusal (r .setup .n) (r .setup .t) (r .setup .a) s) (afterChallenges r s) (λ k. regular-challenges s (kept-stage 3 (omega arith) (omega arith) e)))
+  regular-tag RE s = regular-at RE TakeResponse s (λ e. regular-answered (responseNumber (r .setup) (r .dealings) (r .complaints) (r .challenges) (r .responses) s) (afterResponse r s) (λ k. regular-response s (kept-stage 4 (omega arith) (omega arith) e)))
+  regular-tag unknown s = h
 
   pub regular-step : (s : List ℕ) → Regular (stepOf r s .run)
   unfolding stepOf
-  regular-step s = regular-at (tagOf s) s
+  regular-step s = regular-tag (tagOf s) s
 
 pub regular-after : (r : Run) → Regular r → (l : List (List ℕ)) → Regular (afterFrom r l)
 unfolding afterFrom

@@ -6,7 +6,8 @@ use native.Mathlib.Decide.{ℕ-discrete}
 use mathlib.Core.Path.{_≡_, refl, sym, ap, _∙_}
 use mathlib.Core.Bool.{Bool, true, false, and-eq-true-iff}
 use Prim.Native.Nat.{ℕ, _≤_, _<_}
-use Rattle.lists.specs.Tests.{pick}
+use lib.Dec.{eqb}
+use Rattle.lists.specs.Tests.{pick, pick-case}
 use Rattle.records.specs.Laws.{Bounds, bounds-of, bounds-test}
 use Rattle.run.specs.declared.Run.{Run}
 use Rattle.run.specs.Runs.{wellFormed, stageOf}
@@ -14,6 +15,7 @@ use Rattle.run.specs.Runs.{wellFormed, stageOf}
 -- ---- what the test tells
 
 pub record Formed (r : Run) : Type 0 where
+  pub stage-max : r .stage ≤ 6
   pub bounds : Bounds (r .setup .n) (r .setup .t) (r .setup .a)
   pub dealings-max : r .dealings .count ≤ r .setup .n
   pub complaints-max : r .complaints .count ≤ r .setup .n
@@ -22,10 +24,12 @@ pub record Formed (r : Run) : Type 0 where
 pub formed-of : (r : Run) → wellFormed r ≡ true → Formed r
 unfolding wellFormed
 formed-of r e =
-    let p = and-eq-true-iff _ _ .0 e in
+    let o = and-eq-true-iff _ _ .0 e in
+    let p = and-eq-true-iff _ _ .0 (o .1) in
     let q = and-eq-true-iff _ _ .0 (p .1) in
     let s = and-eq-true-iff _ _ .0 (q .1) in
     record {
+      stage-max = leb-true _ _ (o .0);
       bounds = bounds-of _ _ _ (p .0);
       dealings-max = leb-true _ _ (q .0);
       complaints-max = leb-true _ _ (s .0);
@@ -34,7 +38,8 @@ formed-of r e =
 
 pub formed-test : {r : Run} → Formed r → wellFormed r ≡ true
 unfolding wellFormed
-formed-test f = rw (bounds-test (f .bounds), le-leb _ _ (f .dealings-max), le-leb _ _ (f .complaints-max), le-leb _ _ (f .responses-max))
+formed-test f =
+    rw (le-leb _ _ (f .stage-max), bounds-test (f .bounds), le-leb _ _ (f .dealings-max), le-leb _ _ (f .complaints-max), le-leb _ _ (f .responses-max))
 
 -- ---- the stage
 
@@ -62,3 +67,10 @@ stage-live r g e p l = go (ℕ-discrete (r .stage) 0) (wellFormed r) refl
     go (yes z) b w = absurd (omega (arith, stage-none r z))
     go (no ne) true w = (sym (stage-of-formed r w) ∙ e, w)
     go (no ne) false w = absurd (omega (arith, stage-past r ne ∙ ap (λ (b : Bool). pick b (r .stage) 6) w))
+
+-- no run is at a stage above 6
+pub stage-most : (r : Run) → stageOf r ≤ 6
+unfolding stageOf
+stage-most r =
+    pick-case (λ (g : ℕ). g ≤ 6) (eqb (r .stage) 0) 0 (pick (wellFormed r) (r .stage) 6) (λ e. omega arith)
+    (λ e. pick-case (λ (g : ℕ). g ≤ 6) (wellFormed r) (r .stage) 6 (λ w. formed-of r w .stage-max) (λ w. omega arith))

@@ -2,13 +2,14 @@
 ghost use mathlib.Core.Path.{_≡_};
 ghost use mathlib.Core.Bool.{true};
 ghost use Prim.Native.Nat.{_+_, _*_};
+ghost use Rattle.records.specs.Parameters.{inBounds};
 ghost use Rattle.records.specs.Tags.{decoded};
 ghost use Rattle.records.specs.Refusals.{setupRefusal, challengesRefusal};
 ghost use Rattle.dealing.specs.Definitions.{dealingNumber};
 ghost use Rattle.complaint.specs.Definitions.{complaintNumber};
 ghost use Rattle.response.specs.Definitions.{responseNumber};
 ghost use Rattle.run.specs.Runs.{fresh, begun, wellFormed, stageOf, unblamedOf, setsOf};
-ghost use Rattle.run.specs.Steps.{refused, answered, afterSetup, afterDealing, afterComplaint, afterChallenges, afterResponse, handlerAt, stepOf, untaken};
+ghost use Rattle.run.specs.Steps.{refused, answered, afterSetup, afterDealing, afterComplaint, afterChallenges, finished, afterResponse, handlerAt, stepOf, untaken};
 ghost use Rattle.run.specs.Answers.{inBatch, nonceOf, signatureOf};
 use complaint::Complaints;
 use dealing::Dealings;
@@ -254,6 +255,21 @@ impl Run {
         }
     }
 
+    // Done: every φ is worked out.
+    fn finish(self) -> Run
+        requires { ⌜ inBounds (self .setup .n) (self .setup .t) (self .setup .a) ≡ true ⌝ }
+        ensures { λ r. ⌜ r ≡ finished self ⌝ }
+    {
+        let setup = self.setup;
+        let responses = self.responses;
+        let list = self.signatures;
+        let signatures = responses.signatures(setup, list);
+        let mut next = self;
+        next.stage = 5;
+        next.signatures = signatures;
+        next
+    }
+
     fn take_response(self, bytes: &[u8]) -> Reply
         requires { ⌜ wellFormed self ≡ true ⌝ }
         ensures { λ r. ⌜ r ≡ answered self (responseNumber (self .setup) (self .dealings) (self .complaints) (self .challenges) (self .responses) (now (bytes .entry))) (afterResponse self (now (bytes .entry))) ⌝ }
@@ -273,9 +289,10 @@ impl Run {
         next.responses = responses;
         let rows = old.count as u16 + 1;
         if rows == records::quorum(setup.t, setup.a) {
-            let list = self.signatures;
-            next.stage = 5;
-            next.signatures = responses.signatures(setup, list);
+            return Reply {
+                run: next.finish(),
+                number: 0,
+            };
         }
         Reply {
             run: next,
@@ -289,8 +306,12 @@ impl Run {
     {
         let handler = taken_by(records::tag(bytes), self.stage_of());
         match handler {
+            Handler::TakeSetup => 0,
+            Handler::TakeDealing => 0,
+            Handler::TakeComplaint => 0,
+            Handler::TakeChallenges => 0,
+            Handler::TakeResponse => 0,
             Handler::Refuse(number) => number,
-            _ => 0,
         }
     }
 

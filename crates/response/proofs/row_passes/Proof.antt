@@ -14,37 +14,36 @@ use Rattle.interpolation.specs.Rows.{sumOf, productOf}
 use Rattle.interpolation.specs.Turns.{first, product-none, product-next}
 use Rattle.records.specs.Parameters.{batch}
 use Rattle.records.specs.Bytes.{word, sender}
-use Rattle.records.specs.Laws.{bounds-test, quorum-max, batch-max}
+use Rattle.records.specs.Laws.{bounds-of, quorum-max, batch-max}
 use Rattle.protocol.specs.Transcript.{passes}
 use Rattle.protocol.specs.Arrays.{powersAt}
 use Rattle.protocol.specs.Powers.{powers-none, powers-next, combined-powers}
-use Rattle.run.specs.Runs.{transcriptOf}
-use Rattle.run.specs.RunLaws.{formed-of}
+use Rattle.response.specs.Definitions.{transcript}
 use Rattle.response.proofs.Rows.{wanted, fits, all-weights, row-tested}
 use Rattle.response.proofs.row_passes.Statement.{statement}
 use Rattle.response.proofs.row_passes.Tie as tie
 
 abbrev Inv-loop : tie.InvT-loop
-Inv-loop bytes setup challenges qual quorum key at-slots at-points powers passed u values image₀ v₀ u-end image v =
+Inv-loop setup challenges bytes qual quorum key at-slots at-points powers passed u values image₀ v₀ u-end image v =
     (v ≤ quorum) × (image ≡ productOf (first v at-points) values)
 
 abbrev μ-loop : tie.MeasureT-loop
-μ-loop bytes setup challenges qual quorum key at-slots at-points powers passed u values image₀ v₀ u-end image v =
+μ-loop setup challenges bytes qual quorum key at-slots at-points powers passed u values image₀ v₀ u-end image v =
     quorum - v
 
 abbrev Inv-row : tie.InvT-row
-Inv-row bytes setup challenges qual quorum key at-slots at-points powers₀ passed₀ u₀ u-end powers passed u =
+Inv-row setup challenges bytes qual quorum key at-slots at-points powers₀ passed₀ u₀ u-end powers passed u =
     (u ≤ u-end) × (u-end ≤ 30) × (quorum ≤ 30) × (passed ≡ true)
     × (powers ≡ powersAt (setup .n) powers₀ u)
     × (allTo u (fits setup powers₀ challenges qual quorum key at-slots at-points bytes) ≡ true)
 
 abbrev μ-row : tie.MeasureT-row
-μ-row bytes setup challenges qual quorum key at-slots at-points powers₀ passed₀ u₀ u-end powers passed u = u-end - u
+μ-row setup challenges bytes qual quorum key at-slots at-points powers₀ passed₀ u₀ u-end powers passed u = u-end - u
 
 -- ---- what is known before the rows
 
 abbrev start : tie.After-batch Inv-loop μ-loop Inv-row μ-row → tie.Start Inv-loop μ-loop Inv-row μ-row
-start b = b .before .before .before .before .before .before .before .before .before .before .before .before .before .before
+start b = b .before .before .before .before .before .before .before .before .before .before .before .before
 
 abbrev points : tie.After-batch Inv-loop μ-loop Inv-row μ-row → tie.After-committed-points Inv-loop μ-loop Inv-row μ-row
 points b = b .before .before .before
@@ -55,21 +54,22 @@ fits-of b =
     let w = points b .before in
     let key = w .before .before in
     let q = key .before .before .before in
-    let r = start b .args .self in
-    fits (r .setup) (r .dealings .commitments) (r .challenges) (q .before .qual .result) (q .quorum .result) (key .key-at .result) (w .weights .result) (b .before .before .weights2 .result) (start b .args .bytes .now)
+    let a = start b .args in
+    fits (a .setup) (a .dealings .commitments) (a .challenges) (q .before .unblamed .result) (q .quorum .result) (key .key-at .result) (w .weights .result) (b .before .before .weights2 .result) (a .bytes .now)
 
 -- it is that of the definition
 tested : (b : tie.After-batch Inv-loop μ-loop Inv-row μ-row)
-    → let r = start b .args .self in
-    let s = start b .args .bytes .now in
-    allTo (b .batch .result) (fits-of b) ≡ allTo (batch (r .setup .n) (r .setup .t)) (λ i. passes (transcriptOf r) (i + 1) (sender s) (scalar (word s 4 i)))
+    → let a = start b .args in
+    let s = a .bytes .now in
+    allTo (b .batch .result) (fits-of b) ≡ allTo (batch (a .setup .n) (a .setup .t)) (λ i. passes (transcript (a .setup) (a .dealings) (a .complaints) (a .challenges)) (i + 1) (sender s) (scalar (word s 4 i)))
 tested b =
     let w = points b .before in
     let key = w .before .before in
     let at = key .before in
     let q = at .before .before in
-    row-tested (start b .args .self) (start b .args .bytes .now) (start b .pre) (at .before .byte .ensures) (at .point .ensures) (q .before .qual .ensures) (q .quorum .ensures)
-    (key .key-at .ensures) (w .before .slot-points .ensures) (w .weights .ensures) (points b .committed-points .ensures) (b .before .before .weights2 .ensures) (b .batch .ensures)
+    let a = start b .args in
+    row-tested (a .setup) (a .dealings) (a .complaints) (a .challenges) (bounds-of _ _ _ (start b .pre)) (a .bytes .now) (at .before .byte .ensures) (at .point .ensures) (q .before .unblamed .ensures)
+    (q .quorum .ensures) (key .key-at .ensures) (w .before .slot-points .ensures) (w .weights .ensures) (points b .committed-points .ensures) (b .before .before .weights2 .ensures) (b .batch .ensures)
 
 -- the weights are as many as the committed points
 all-points : (b : tie.After-batch Inv-loop μ-loop Inv-row μ-row) → points b .before .before .before .before .before .before .quorum .result ≤ 64
@@ -106,16 +106,15 @@ compared c =
 
 -- ---- the needs
 
-qual-requires : tie.Need-qual-requires Inv-loop μ-loop Inv-row μ-row
-qual-requires c κs = search needs
+unblamed-requires : tie.Need-unblamed-requires Inv-loop μ-loop Inv-row μ-row
+unblamed-requires c κs = search needs
 
 quorum-requires : tie.Need-quorum-requires Inv-loop μ-loop Inv-row μ-row
 quorum-requires c κs = search needs
 
 cast-quorum : tie.Need-cast-quorum Inv-loop μ-loop Inv-row μ-row
 cast-quorum c =
-    let start = c .before .before .before .before .before in
-    omega (arith, quorum-max (formed-of (start .args .self) (start .pre) .bounds))
+    omega (arith, quorum-max (bounds-of _ _ _ (c .before .before .before .pre)))
 
 byte-requires : tie.Need-byte-requires Inv-loop μ-loop Inv-row μ-row
 byte-requires c κs = search needs
@@ -124,9 +123,7 @@ point-requires : tie.Need-point-requires Inv-loop μ-loop Inv-row μ-row
 point-requires c κs = search needs
 
 key-at-requires : tie.Need-key-at-requires Inv-loop μ-loop Inv-row μ-row
-key-at-requires c κs =
-    let start = c .before .before .before .before .before .before .before in
-    bounds-test (formed-of (start .args .self) (start .pre) .bounds)
+key-at-requires c κs = search needs
 
 slot-points-requires : tie.Need-slot-points-requires Inv-loop μ-loop Inv-row μ-row
 slot-points-requires c κs = search needs
@@ -146,7 +143,7 @@ batch-requires c κs = search needs
 row-holds : tie.Need-row-holds Inv-loop μ-loop Inv-row μ-row
 unfolding allTo
 row-holds c =
-    let bounds = formed-of (start c .args .self) (start c .pre) .bounds in
+    let bounds = bounds-of _ _ _ (start c .pre) in
     let need = points c .before .before .before .before .before .before .quorum .ensures in
     (omega arith, omega (arith, c .batch .ensures, batch-max bounds), omega (arith, need, quorum-max bounds), refl, powers-none _ _, refl)
 
@@ -261,7 +258,7 @@ row-passes-spec =
     μ-loop
     Inv-row
     μ-row
-    qual-requires
+    unblamed-requires
     quorum-requires
     cast-quorum
     byte-requires

@@ -23,10 +23,9 @@ returns : tie.Need-returns
 returns c =
     let weights = c .before .before in
     let start = weights .before .before .before in
-    let responses = start .good .0 .1 .1 .1 .1 .1 .1 .1 .0 in
     c .sum .ensures
     ∙ rw (c .before .member-numbers .ensures, weights .weights .ensures, start .pre, weights-by, weights .before .point .ensures)
-    (phi-members (start .args .self) (start .args .u) (start .args .k) (omega (arith, responses)))
+    (phi-members (start .args .n) (start .args .self) (start .args .u) (start .args .k) (omega arith))
 
 pub interpolated-spec : {M : Type 1} → statement M
 interpolated-spec =

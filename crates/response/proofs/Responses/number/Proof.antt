@@ -31,8 +31,9 @@ unfolding responseNumber
 returns-2 c =
     let asked = c .before in
     let passed = asked .before .before in
+    let a = passed .before .before .before .args in
     sym (require-false _ 12 _ (ap not (c .if2 .taken)))
-    ∙ sent (passed .before .response-refusal .ensures) _ _ (passed .if1 .left) (asked .before .byte .ensures) (asked .has .ensures)
+    ∙ sent (passed .before .response-refusal .ensures) (has (a .self .responders)) _ _ (passed .if1 .left) (asked .before .byte .ensures) (asked .has .ensures)
 
 has-requires-2 : tie.Need-has-requires-2
 has-requires-2 c κs = search needs
@@ -41,15 +42,15 @@ has-requires-2 c κs = search needs
 held : (c : tie.After-has2) (last : ℕ) → let a = c .before .before .before .before .before .before .before .args in
     let s = a .bytes .now in
     require (c .has2 .result) 14 last
-    ≡ orNext (responseRefusal (a .self .setup .n) (a .self .setup .t) s)
-    (require (not (has (a .self .responses .responders) (sender s))) 12 (require (has (a .self .complaints .holders) (sender s)) 14 last))
+    ≡ orNext (responseRefusal (a .setup .n) (a .setup .t) s)
+    (require (not (has (a .self .responders) (sender s))) 12 (require (has (a .complaints .holders) (sender s)) 14 last))
 held c last =
     let first = c .before in
     let byte = first .before .before .byte .ensures in
     let passed = first .before .before .before in
     ap (λ (b : Bool). require b 14 last) (c .has2 .ensures ∙ ap (has _) byte)
     ∙ sym (require-true _ 12 _ (ap not (first .if2 .left)))
-    ∙ sent (passed .before .response-refusal .ensures) _ _ (passed .if1 .left) byte (first .before .has .ensures)
+    ∙ sent (passed .before .response-refusal .ensures) (has (passed .before .before .before .args .self .responders)) _ _ (passed .if1 .left) byte (first .before .has .ensures)
 
 returns-3 : tie.Need-returns-3
 unfolding responseNumber
@@ -60,7 +61,7 @@ row-passes-requires c κs = search needs
 
 -- what is left of the number
 left : (c : tie.After-row-passes) → let a = c .before .before .before .before .before .before .before .before .before .args in
-    require (c .row-passes .result) 15 0 ≡ responseNumber (a .self) (a .bytes .now)
+    require (c .row-passes .result) 15 0 ≡ responseNumber (a .setup) (a .dealings) (a .complaints) (a .challenges) (a .self) (a .bytes .now)
 unfolding responseNumber
 left c = rw (c .row-passes .ensures) (sym (require-true _ 14 _ (not-false _ (c .before .if3 .left))) ∙ held (c .before .before) _)
 

@@ -8,29 +8,28 @@ use Rattle.lists.specs.Stores.{stored}
 use Rattle.field.specs.declared.Scalar.{Scalar}
 use Rattle.interpolation.specs.Rows.{basisOf}
 use Rattle.records.specs.Parameters.{batch}
-use Rattle.records.specs.Laws.{key-max, batch-max, cells-max}
+use Rattle.records.specs.Laws.{bounds-of, key-max, batch-max, cells-max}
 use Rattle.protocol.specs.Arrays.{memberPoints}
-use Rattle.run.specs.declared.Run.{Run}
-use Rattle.response.specs.Definitions.{phiOf}
-use Rattle.run.specs.Steps.{finished}
-use Rattle.run.specs.RunLaws.{formed-of}
+use Rattle.dealing.specs.declared.Setup.{Setup}
+use Rattle.response.specs.declared.Responses.{Responses}
+use Rattle.response.specs.Definitions.{phiOf, signaturesOf}
 use Rattle.lists.specs.Loads.{load-in, loaded}
 use Rattle.response.proofs.Responses.signatures.Statement.{statement}
 use Rattle.response.proofs.Responses.signatures.Tie as tie
 
 -- φ(u,k) at its place, u outer
-abbrev cell : Run → ℕ → Scalar
-cell r x = phiOf r (x / r .setup .a + 1) (x % r .setup .a + 1)
+abbrev cell : Setup → Responses → ℕ → Scalar
+cell setup p x = phiOf (setup .n) p (x / setup .a + 1) (x % setup .a + 1)
 
 abbrev Inv-loop : tie.InvT-loop
-Inv-loop self a basis signatures₀ count x₀ signatures x =
-    (basis ≡ basisOf (memberPoints (self .setup .n) (self .responses .responders))) × (x ≤ count) × (0 < a) × (a ≤ 31) × (count ≤ 30 * a) × (count ≤ 512) × (signatures ≡ stored (self .signatures) 0 x (cell self))
+Inv-loop self setup a basis signatures₀ count x₀ signatures x =
+    (basis ≡ basisOf (memberPoints (setup .n) (self .responders))) × (x ≤ count) × (0 < a) × (a ≤ 31) × (count ≤ 30 * a) × (count ≤ 512) × (signatures ≡ stored signatures₀ 0 x (cell setup self))
 
 abbrev μ-loop : tie.MeasureT-loop
-μ-loop self a basis signatures₀ count x₀ signatures x = count - x
+μ-loop self setup a basis signatures₀ count x₀ signatures x = count - x
 
 -- u is at most 30
-few : (c : tie.In-loop Inv-loop μ-loop) → c .before .loop .x / c .before .before .before .before .before .before .args .self .setup .a < 30
+few : (c : tie.In-loop Inv-loop μ-loop) → c .before .loop .x / c .before .before .before .before .before .args .setup .a < 30
 few c = div-lt-iff-lt-mul (c .before .loop .inv .2) .1 (omega arith)
 
 member-points-requires : tie.Need-member-points-requires Inv-loop μ-loop
@@ -50,16 +49,16 @@ cast-count-2 c = search needs
 
 mul-count : tie.Need-mul-count Inv-loop μ-loop
 mul-count c =
-    let start = c .before .before .before .before in
-    rw (c .batch .ensures) (omega (arith, cells-max (formed-of (start .args .self) (start .pre) .bounds)))
+    let start = c .before .before .before in
+    rw (c .batch .ensures) (omega (arith, cells-max (bounds-of _ _ _ (start .pre))))
 
 loop-holds : tie.Need-loop-holds Inv-loop μ-loop
 unfolding stored
 loop-holds c =
-    let basis = c .before .before in
+    let basis = c .before in
     let start = basis .before .before in
-    let bounds = formed-of (start .args .self) (start .pre) .bounds in
-    let rows : start .args .self .setup .a * c .batch .result ≤ start .args .self .setup .a * 30 = rw (c .batch .ensures) (mul-le-mul (le-refl _) (batch-max bounds)) in
+    let bounds = bounds-of _ _ _ (start .pre) in
+    let rows : start .args .setup .a * c .batch .result ≤ start .args .setup .a * 30 = rw (c .batch .ensures) (mul-le-mul (le-refl _) (batch-max bounds)) in
     (basis .basis .ensures ∙ ap basisOf (basis .before .member-points .ensures), omega arith, bounds .a-pos, omega (arith, key-max bounds), omega arith, rw (c .batch .ensures) (cells-max bounds), refl)
 
 cast-u : tie.Need-cast-u Inv-loop μ-loop
@@ -107,16 +106,16 @@ loop-less c = search needs
 loop-again : tie.Need-loop-again Inv-loop μ-loop
 loop-again c =
     let l = c .before .before .loop in
-    let r = c .before .before .before .before .before .before .before .args .self in
-    (l .inv .0, omega arith, l .inv .2, l .inv .3, l .inv .4, l .inv .5, load-in (r .signatures) 0 (l .x) (cell r) (l .inv .6) (omega arith) (c .interpolated .ensures) refl)
+    let a = c .before .before .before .before .before .before .args in
+    (l .inv .0, omega arith, l .inv .2, l .inv .3, l .inv .4, l .inv .5, load-in (a .list) 0 (l .x) (cell (a .setup) (a .self)) (l .inv .6) (omega arith) (c .interpolated .ensures) refl)
 
 returns : tie.Need-returns Inv-loop μ-loop
-unfolding finished
+unfolding signaturesOf
 returns c =
     let b = c .before .before in
-    let r = b .before .before .before .before .args .self in
-    let end : c .before .loop .x ≡ r .setup .a * batch (r .setup .n) (r .setup .t) = rw (← b .batch .ensures) (omega arith) in
-    rw (loaded (r .signatures) 0 _ (cell r) (c .before .loop .inv .6) end)
+    let a = b .before .before .before .args in
+    let end : c .before .loop .x ≡ a .setup .a * batch (a .setup .n) (a .setup .t) = rw (← b .batch .ensures) (omega arith) in
+    loaded (a .list) 0 _ (cell (a .setup) (a .self)) (c .before .loop .inv .6) end
 
 pub signatures-spec : {M : Type 1} → statement M
 signatures-spec =

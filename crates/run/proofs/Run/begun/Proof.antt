@@ -1,7 +1,10 @@
 -- `Run::begun` meets its contract: the arrays that the code writes out are the filled ones. Assumes nothing.
 use mathlib.Core.Path.{refl}
 use Rattle.lists.specs.Stores.{filled}
-use Rattle.run.specs.Runs.{noDealings, noComplaints, noResponses, noScalars, begun}
+use Rattle.dealing.specs.Definitions.{noDealings}
+use Rattle.complaint.specs.Definitions.{noComplaints}
+use Rattle.response.specs.Definitions.{noResponses}
+use Rattle.run.specs.Runs.{noScalars, begun}
 use Rattle.run.proofs.Run.begun.Statement.{statement}
 use Rattle.run.proofs.Run.begun.Tie as tie
 

@@ -1,7 +1,8 @@
 -- `Run::fresh` meets its contract. Assumes nothing.
 use borrow.Author.Needs.{needs}
 use Rattle.lists.specs.Stores.{filled}
-use Rattle.run.specs.Runs.{noSetup, fresh}
+use Rattle.dealing.specs.Definitions.{noSetup}
+use Rattle.run.specs.Runs.{fresh}
 use Rattle.run.proofs.Run.fresh.Statement.{statement}
 use Rattle.run.proofs.Run.fresh.Tie as tie
 

@@ -4,11 +4,12 @@ use borrow.Author.Tests.{le-leb, lt-leb}
 use Rattle.lists.specs.Calls.{holds, fails}
 use Prim.Native.Nat.{_≤_, _<_}
 use mathlib.Core.Path.{refl, ap, _∙_}
+use Rattle.records.specs.Laws.{bounds-test}
 use Rattle.protocol.specs.Transcript.{nonce, combinedAt}
 use Rattle.run.specs.declared.Nonce.{Nonce}
 use Rattle.run.specs.declared.Nonce.the-variants as N
 use Rattle.run.specs.Runs.{stageOf, transcriptOf}
-use Rattle.run.specs.RunLaws.{stage-live}
+use Rattle.run.specs.RunLaws.{formed-of, stage-live}
 use Rattle.run.specs.Answers.{nonceOf}
 use borrow.Author.Needs.{needs}
 use Rattle.run.proofs.Run.nonce.Statement.{statement}
@@ -47,24 +48,27 @@ returns-3 c =
 point-requires : tie.Need-point-requires
 point-requires c κs = search needs
 
+-- the run's stage, where it is asked for its parts
+live : (c : tie.Else3) → (3 ≤ stageOf (c .before .before .before .before .before .args .self)) × (stageOf (c .before .before .before .before .before .args .self) ≤ 5)
+live c =
+    let stage = c .before .before .before .before in
+    (rw (stage .stage-of .ensures) at (c .before .before .before .if1 .left), rw (stage .stage-of .ensures) at (c .before .before .if2 .left))
+
 combined-at-requires : tie.Need-combined-at-requires
 combined-at-requires c κs =
-    let stage = c .before .before .before .before .before in
-    let r = stage .before .args .self in
-    let l : 3 ≤ stageOf r = rw (stage .stage-of .ensures) at (c .before .before .before .before .if1 .left) in
-    let h : stageOf r ≤ 5 = rw (stage .stage-of .ensures) at (c .before .before .before .if2 .left) in
-    stage-live r (stageOf r) refl (omega arith) (omega arith) .1
+    let asked = c .before .before .before .before in
+    let r = asked .before .before .before .before .before .args .self in
+    let l = live asked in
+    bounds-test (formed-of r (stage-live r (stageOf r) refl (omega arith) (omega arith) .1) .bounds)
 
 returns-4 : tie.Need-returns-4
-unfolding nonceOf nonce
+unfolding nonceOf nonce transcriptOf
 returns-4 c =
-    let stage = c .before .before .before .before .before .before in
-    let r = stage .before .args .self in
-    let u = stage .before .args .u in
-    let l : 3 ≤ stageOf r = rw (stage .stage-of .ensures) at (c .before .before .before .before .before .if1 .left) in
-    let h : stageOf r ≤ 5 = rw (stage .stage-of .ensures) at (c .before .before .before .before .if2 .left) in
-    rw (le-leb 3 (stageOf r) l, le-leb (stageOf r) 5 h, holds (c .before .before .before .in-batch .ensures) (c .before .before .if3 .left))
-    (ap N.Is (c .combined-at .ensures ∙ ap (combinedAt (transcriptOf r) u) (c .before .point .ensures)))
+    let asked = c .before .before .before .before .before in
+    let a = asked .before .before .before .before .before .args in
+    let r = a .self in
+    rw (le-leb 3 (stageOf r) (live asked .0), le-leb (stageOf r) 5 (live asked .1), holds (asked .before .in-batch .ensures) (asked .if3 .left))
+    (ap N.Is (c .combined-at .ensures (r .challenges) ∙ ap (combinedAt (transcriptOf r) (a .u)) (c .before .point .ensures)))
 
 pub nonce-spec : {M : Type 1} → statement M
 nonce-spec =

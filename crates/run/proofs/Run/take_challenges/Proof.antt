@@ -6,7 +6,7 @@ use mathlib.Core.List.{List}
 use Rattle.field.specs.declared.Scalar.{Scalar}
 use Rattle.records.specs.Laws.{cells-max}
 use Rattle.run.specs.RunLaws.{formed-of}
-use Rattle.run.specs.Steps.{challengesNumber, afterChallenges}
+use Rattle.run.specs.Steps.{afterChallenges}
 use Rattle.run.proofs.Numbers.{refused-by, accepted-by}
 use Rattle.run.proofs.Run.take_challenges.Statement.{statement}
 use Rattle.run.proofs.Run.take_challenges.Tie as tie
@@ -18,7 +18,6 @@ refuse-requires : tie.Need-refuse-requires
 refuse-requires c κs = search needs
 
 returns : tie.Need-returns
-unfolding challengesNumber
 returns c = c .refuse .ensures ∙ refused-by (c .before .before .challenges-refusal .ensures) _ _ (c .before .if1 .taken)
 
 cast-count : tie.Need-cast-count
@@ -39,7 +38,7 @@ load-challenges-requires : tie.Need-load-challenges-requires
 load-challenges-requires c κs = search needs
 
 returns-2 : tie.Need-returns-2
-unfolding challengesNumber afterChallenges
+unfolding afterChallenges
 returns-2 c =
     let batch = c .before in
     let passed = batch .before .before .before in

@@ -6,32 +6,32 @@ use mathlib.Core.Logic.{⊎-elim}
 use mathlib.Core.Path.{_≡_, ap, ap₂, sym, _∙_}
 use Prim.Native.Nat.{ℕ, _+_, _-_}
 use lib.Dec.{eqb}
-use Rattle.lists.specs.Tests.{pick}
+use Rattle.lists.specs.Tests.{pick, or-next}
 use Rattle.records.specs.Laws.{bounds-test, dealing-passed}
-use Rattle.run.specs.declared.Dealings.{Dealings}
-use Rattle.run.specs.Steps.{dealingNumber, withDealing, afterDealing}
+use Rattle.dealing.specs.declared.Dealings.{Dealings}
+use Rattle.dealing.specs.Definitions.{dealingNumber, withDealing}
+use Rattle.run.specs.Steps.{afterDealing}
 use Rattle.run.specs.RunLaws.{formed-of}
-use Rattle.run.proofs.Numbers.{first-none, refused-by, accepted-by}
+use Rattle.run.proofs.Numbers.{refused-by, accepted-by}
 use Rattle.run.proofs.Run.take_dealing.Statement.{statement}
 use Rattle.run.proofs.Run.take_dealing.Tie as tie
 
-dealing-number-requires : tie.Need-dealing-number-requires
-dealing-number-requires c κs = search needs
+number-requires : tie.Need-number-requires
+number-requires c κs = search needs
 
 refuse-requires : tie.Need-refuse-requires
 refuse-requires c κs = search needs
 
 returns : tie.Need-returns
-returns c = c .refuse .ensures ∙ refused-by (c .before .before .dealing-number .ensures) _ _ (c .before .if1 .taken)
+returns c = c .refuse .ensures ∙ refused-by (c .before .before .number .ensures) _ _ (c .before .if1 .taken)
 
 with-requires : tie.Need-with-requires
 unfolding dealingNumber
 with-requires c κs =
-    let passed = c .before .before in
-    let start = passed .before .before .before in
+    let start = c .before .before .before .before .before in
     let r = start .args .self in
     let formed = formed-of r (start .pre) in
-    let none = first-none _ _ (sym (passed .before .dealing-number .ensures) ∙ passed .if1 .left) in
+    let none = or-next _ _ (sym (c .before .number .ensures) ∙ c .if1 .left) .0 in
     (bounds-test (formed .bounds), omega arith, dealing-passed (r .setup .n) (r .setup .t) (r .setup .a) (start .args .bytes .now) none .sender-max)
 
 sub-if2 : tie.Need-sub-if2
@@ -44,15 +44,15 @@ returns-2 : tie.Need-returns-2
 unfolding afterDealing withDealing
 returns-2 c =
     let taken = c .before .before .before in
-    let passed = taken .before .before .before in
-    let r = passed .before .before .before .args .self in
+    let passed = taken .before in
+    let r = passed .before .before .before .before .before .args .self in
     let more : taken .with .result .count ≡ r .dealings .count + 1 = ap (λ (d : Dealings). d .count) (taken .with .ensures) in
     let stage : c .if2 .next ≡ pick (eqb (r .dealings .count + 1) (r .setup .n - r .setup .t)) 2 1 =
     ⊎-elim
     (λ w. w .1 ∙ rw (eq-eqb _ _ (sym more ∙ w .0 .taken)))
     (λ w. w .1 ∙ rw (ne-eqb _ _ (λ e. w .0 .left (more ∙ e))))
     (c .if2 .came) in
-    accepted-by (passed .before .dealing-number .ensures) _ (passed .if1 .left)
+    accepted-by (passed .before .number .ensures) _ (passed .if1 .left)
     (ap₂
     (λ (g : ℕ) (d : Dealings). record {
       stage = g;
@@ -68,4 +68,4 @@ returns-2 c =
 pub take-dealing-spec : {M : Type 1} → statement M
 take-dealing-spec =
     tie.close
-    (tie.spec dealing-number-requires refuse-requires returns with-requires sub-if2 returns-2)
+    (tie.spec number-requires refuse-requires returns with-requires sub-if2 returns-2)

@@ -8,27 +8,30 @@ use Prim.Native.Nat.{_+_}
 use lib.Dec.{eqb}
 use Rattle.lists.specs.Tests.{pick}
 use Rattle.records.specs.Parameters.{quorum}
-use Rattle.records.specs.Laws.{quorum-is}
+use Rattle.records.specs.Laws.{bounds-test}
 use Rattle.run.specs.declared.Run.{Run}
-use Rattle.run.specs.declared.Responses.{Responses}
-use Rattle.run.specs.Steps.{withResponse, withRow, finished, afterResponse}
-use Rattle.run.specs.RunLaws.{formed-of, formed-test}
+use Rattle.response.specs.declared.Responses.{Responses}
+use Rattle.response.specs.Definitions.{withResponse}
+use Rattle.run.specs.Steps.{withRow, finished, afterResponse}
+use Rattle.run.specs.RunLaws.{formed-of}
 use Rattle.run.proofs.Numbers.{refused-by, accepted-by}
 use Rattle.run.proofs.Run.take_response.Statement.{statement}
 use Rattle.run.proofs.Run.take_response.Tie as tie
 
-response-number-requires : tie.Need-response-number-requires
-response-number-requires c κs = search needs
+number-requires : tie.Need-number-requires
+number-requires c κs =
+    let start = c .before .before .before .before .before .before in
+    bounds-test (formed-of (start .args .self) (start .pre) .bounds)
 
 refuse-requires : tie.Need-refuse-requires
 refuse-requires c κs = search needs
 
 returns : tie.Need-returns
-returns c = c .refuse .ensures ∙ refused-by (c .before .before .response-number .ensures) _ _ (c .before .if1 .taken)
+returns c = c .refuse .ensures ∙ refused-by (c .before .before .number .ensures) _ _ (c .before .if1 .taken)
 
 with-requires : tie.Need-with-requires
 with-requires c κs =
-    let start = c .before .before .before .before .before in
+    let start = c .before .before .before .before .before .before .before .before in
     let formed = formed-of (start .args .self) (start .pre) in
     omega arith
 
@@ -42,17 +45,9 @@ quorum-requires : tie.Need-quorum-requires
 quorum-requires c κs = search needs
 
 finish-requires : tie.Need-finish-requires
-unfolding withResponse
 finish-requires c κs =
-    let start = c .before .before .before .before .before .before .before .before .before in
-    let formed = formed-of (start .args .self) (start .pre) in
-    let count = ap (λ (p : Responses). p .count) (c .before .before .before .with .ensures) in
-    formed-test (record {
-      bounds = formed .bounds;
-      dealings-max = formed .dealings-max;
-      complaints-max = formed .complaints-max;
-      responses-max = omega (arith, count, c .before .quorum .ensures, quorum-is (formed .bounds), formed .bounds .enough);
-    })
+    let start = c .before .before .before .before .before .before .before .before .before .before .before .before in
+    bounds-test (formed-of (start .args .self) (start .pre) .bounds)
 
 -- the run with the rows p, at stage 4
 abbrev with-rows : Run → Responses → Run
@@ -71,11 +66,11 @@ unfolding afterResponse withRow
 returns-2 c =
     let need = c .before .before in
     let taken = need .before .before in
-    let passed = taken .before .before .before in
-    let a = passed .before .before .before .args in
+    let passed = taken .before in
+    let a = passed .before .before .before .before .before .before .before .before .args in
     let r = a .self in
     let done : eqb (r .responses .count + 1) (quorum (r .setup .t) (r .setup .a)) ≡ true = eq-eqb _ _ (c .before .if2 .taken ∙ need .quorum .ensures) in
-    accepted-by (passed .before .response-number .ensures) _ (passed .if1 .left)
+    accepted-by (passed .before .number .ensures) _ (passed .if1 .left)
     (c .finish .ensures ∙ ap (λ (p : Responses). finished (with-rows r p)) (taken .with .ensures)
     ∙ sym (ap (λ (b : Bool). pick b (finished (withRow r (a .bytes .now))) (withRow r (a .bytes .now))) done))
 
@@ -84,11 +79,11 @@ unfolding afterResponse withRow
 returns-3 c =
     let need = c .before in
     let taken = need .before .before in
-    let passed = taken .before .before .before in
-    let a = passed .before .before .before .args in
+    let passed = taken .before in
+    let a = passed .before .before .before .before .before .before .before .before .args in
     let r = a .self in
     let more : eqb (r .responses .count + 1) (quorum (r .setup .t) (r .setup .a)) ≡ false = ne-eqb _ _ (λ e. c .if2 .left (e ∙ sym (need .quorum .ensures))) in
-    accepted-by (passed .before .response-number .ensures) _ (passed .if1 .left)
+    accepted-by (passed .before .number .ensures) _ (passed .if1 .left)
     (ap (with-rows r) (taken .with .ensures)
     ∙ sym (ap (λ (b : Bool). pick b (finished (withRow r (a .bytes .now))) (withRow r (a .bytes .now))) more))
 
@@ -96,7 +91,7 @@ pub take-response-spec : {M : Type 1} → statement M
 take-response-spec =
     tie.close
     (tie.spec
-    response-number-requires
+    number-requires
     refuse-requires
     returns
     with-requires

@@ -8,35 +8,39 @@ use Rattle.run.specs.Runs.{wellFormed}
 use Rattle.run.proofs.Run.well_formed.Statement.{statement}
 use Rattle.run.proofs.Run.well_formed.Tie as tie
 
+returns : tie.Need-returns
+unfolding wellFormed
+returns c = rw (lt-leb _ _ (c .if1 .taken))
+
 in-bounds-requires : tie.Need-in-bounds-requires
 in-bounds-requires c κs = search needs
 
-returns : tie.Need-returns
-unfolding wellFormed
-returns c = rw (← c .before .in-bounds .ensures, not-true (c .before .in-bounds .result) (c .if1 .taken))
-
 returns-2 : tie.Need-returns-2
 unfolding wellFormed
-returns-2 c =
-    let bounds = c .before .before in
-    rw (← bounds .before .in-bounds .ensures, not-false (bounds .before .in-bounds .result) (bounds .if1 .left), lt-leb _ _ (c .if2 .taken))
+returns-2 c = rw (le-leb _ _ (c .before .before .if1 .left), ← c .before .in-bounds .ensures, not-true (c .before .in-bounds .result) (c .if2 .taken))
 
 returns-3 : tie.Need-returns-3
 unfolding wellFormed
 returns-3 c =
-    let dealings = c .before .before in
-    let bounds = dealings .before .before in
-    let r = bounds .before .before .args .self in
-    let above : leb (r .complaints .count) (r .setup .n) ≡ false = lt-leb _ _ (c .if3 .taken) in
-    rw (← bounds .before .in-bounds .ensures, not-false (bounds .before .in-bounds .result) (bounds .if1 .left), le-leb _ _ (dealings .if2 .left), above)
+    let bounds = c .before .before in
+    rw (le-leb _ _ (bounds .before .before .if1 .left), ← bounds .before .in-bounds .ensures, not-false (bounds .before .in-bounds .result) (bounds .if2 .left), lt-leb _ _ (c .if3 .taken))
 
 returns-4 : tie.Need-returns-4
 unfolding wellFormed
 returns-4 c =
+    let dealings = c .before .before in
+    let bounds = dealings .before .before in
+    let r = bounds .before .before .before .before .args .self in
+    let above : leb (r .complaints .count) (r .setup .n) ≡ false = lt-leb _ _ (c .if4 .taken) in
+    rw (le-leb _ _ (bounds .before .before .if1 .left), ← bounds .before .in-bounds .ensures, not-false (bounds .before .in-bounds .result) (bounds .if2 .left), le-leb _ _ (dealings .if3 .left), above)
+
+returns-5 : tie.Need-returns-5
+unfolding wellFormed
+returns-5 c =
     let complaints = c .before in
     let dealings = complaints .before .before in
     let bounds = dealings .before .before in
-    rw (← bounds .before .in-bounds .ensures, not-false (bounds .before .in-bounds .result) (bounds .if1 .left), le-leb _ _ (dealings .if2 .left), le-leb _ _ (complaints .if3 .left))
+    rw (le-leb _ _ (bounds .before .before .if1 .left), ← bounds .before .in-bounds .ensures, not-false (bounds .before .in-bounds .result) (bounds .if2 .left), le-leb _ _ (dealings .if3 .left), le-leb _ _ (complaints .if4 .left))
 
 pub well-formed-spec : {M : Type 1} → statement M
-well-formed-spec = tie.close (tie.spec in-bounds-requires returns returns-2 returns-3 returns-4)
+well-formed-spec = tie.close (tie.spec returns in-bounds-requires returns-2 returns-3 returns-4 returns-5)
