@@ -1,7 +1,7 @@
 // Scalars modulo q and group elements modulo P, two kinds of number that are never taken for one another.
 ghost use mathlib.Core.Path.{_≡_};
 ghost use Prim.Native.Nat.{_<_};
-ghost use Rattle.field.specs.Definitions.{powerOf, reduced, plus, minus, times, inverse, power, isScalar, product, raise, isElement};
+ghost use Rattle.field.specs.Definitions.{powerOf, reduced, plus, minus, times, inverse, power, isScalar, sameElement, product, raise, isElement};
 
 // A number from 0 to q - 1, counted modulo q.
 pub struct Scalar(pub u32);
@@ -114,6 +114,13 @@ impl Element {
             return false;
         }
         power_of(Element::MODULUS, x, Scalar::MODULUS) == 1
+    }
+
+    // Whether both are one element.
+    pub fn same(self, other: Element) -> bool
+        ensures { λ r. ⌜ r ≡ sameElement self other ⌝ }
+    {
+        self.0 == other.0
     }
 
     pub fn mul(self, other: Element) -> Element

@@ -1,6 +1,6 @@
 -- `Element::pow` meets its contract. Assumes nothing.
 use mathlib.Core.Path.{ap}
-use Rattle.field.specs.Definitions.{P, element, raise}
+use Rattle.field.specs.Definitions.{P, element, powered, raise}
 use borrow.Author.Needs.{needs}
 use Rattle.field.proofs.Element.pow.Statement.{statement}
 use Rattle.field.proofs.Element.pow.Tie as tie
@@ -9,7 +9,7 @@ power-of-requires : tie.Need-power-of-requires
 power-of-requires c κs = search needs
 
 returns : tie.Need-returns
-unfolding raise P
+unfolding raise powered P
 returns c = ap element (c .power-of .ensures)
 
 pub pow-spec : {M : Type 1} → statement M
