@@ -18,7 +18,7 @@ use Rattle.field.specs.Order as O
 use Rattle.field.specs.Trial.{trial, prime-by-trial}
 use Rattle.field.specs.ScalarLaws.{range, inverses, power-whole}
 
-pub 1<P : 1 < P
+1<P : 1 < P
 unfolding P
 1<P = lit< tt
 
@@ -27,7 +27,7 @@ P<word : P < 2 ^ 32
 unfolding P
 P<word = lit< tt
 
-pub 0<P : 0 < P
+0<P : 0 < P
 0<P = omega (arith, 1<P)
 
 -- P is prime

@@ -17,7 +17,7 @@ use Rattle.field.specs.Order.{Inverse}
 
 -- ---- the modulus
 
-pub 1<q : 1 < q
+1<q : 1 < q
 unfolding q
 1<q = lit< tt
 
@@ -31,7 +31,7 @@ q<word : q < 2 ^ 32
 unfolding q
 q<word = lit< tt
 
-pub 0<q : 0 < q
+0<q : 0 < q
 0<q = omega (arith, 1<q)
 
 -- q is prime

@@ -15,7 +15,7 @@ use Rattle.field.specs.Definitions.{scalar, IsScalar, minus, times, inverse}
 use Rattle.field.specs.ScalarLaws.{one-range, times-range, times-assoc, times-comm, times-one, inverse-times, inverse-one}
 use Rattle.interpolation.specs.declared.Row.{Row}
 use Rattle.interpolation.specs.Definitions.{factor, weight}
-use Rattle.interpolation.specs.Rows.{size, nth, listed, weightsOf, differences, scale, basisOf, weightsBy, nth-listed, listed-cong}
+use Rattle.interpolation.specs.Rows.{size, nth, listed, weightsOf, differences, scale, basisOf, weightsBy, size-max, nth-listed, listed-cong}
 
 -- f 0 × .. × f (n - 1)
 abbrev ∏ : ℕ → (ℕ → Scalar) → Scalar
@@ -62,12 +62,12 @@ weight-is pt m i x =
 
 -- the basis of a row of points has the weights of the row
 pub weights-by : (r : Row) (x : Scalar) → weightsBy (basisOf r) x ≡ weightsOf r x
-unfolding weightsBy basisOf weightsOf size
+unfolding weightsBy basisOf weightsOf
 weights-by r x =
     let pt = nth r in
     let m = size r in
     listed-cong m (λ i. times (differences pt m i x) (nth (listed m (scale pt m)) i)) (λ i. weight pt m i x)
-    (λ i c. ap (λ (t : Scalar). times (differences pt m i x) t) (nth-listed m (scale pt m) i c (omega arith)) ∙ weight-is pt m i x)
+    (λ i c. ap (λ (t : Scalar). times (differences pt m i x) t) (nth-listed m (scale pt m) i c (size-max r)) ∙ weight-is pt m i x)
 
 -- ---- the points before and after one
 
@@ -134,7 +134,7 @@ reversed-products r x k h =
 -- x's differences from all points but one, from the partial products of both orders
 pub differences-split : (r : Row) (x : Scalar) (i : ℕ) → i < size r
     → times (nth (partialProducts r x) i) (nth (partialProducts (reversed r) x) (size r - 1 - i)) ≡ differences (nth r) (size r) i x
-unfolding differences partialProducts size partialProduct
+unfolding differences partialProducts partialProduct
 differences-split r x i h =
-    ap₂ times (nth-listed (size r) (partialProduct r x) i h (omega arith)) (reversed-products r x (size r - 1 - i) (omega arith))
+    ap₂ times (nth-listed (size r) (partialProduct r x) i h (size-max r)) (reversed-products r x (size r - 1 - i) (omega arith))
     ∙ product-but (size r) i (λ l. minus x (nth r l)) h

@@ -35,7 +35,7 @@ pub point-unique : (x y x′ y′ : ℕ) → x + y′ ≤ 100000 → x′ + y �
 unfolding point
 point-unique x y x′ y′ l k e = difference-unique x y x′ y′ l k e
 
--- the points of holders and dealers, of packed places and of committed values
+-- the points of holders and dealers, and of packed places
 pub party-is : (j : ℕ) → party j ≡ point j 0
 unfolding party
 party-is j = refl
@@ -43,10 +43,6 @@ party-is j = refl
 pub slot-is : (k : ℕ) → slot k ≡ point 1 k
 unfolding slot
 slot-is k = refl
-
-pub committedPoint-is : (a v : ℕ) → committedPoint a v ≡ point (v + 1) a
-unfolding committedPoint
-committedPoint-is a v = refl
 
 -- the first m points have distinct residues
 abbrev pub DistinctPoints : ℕ → (ℕ → Scalar) → Type 0

@@ -35,7 +35,7 @@ module _ (w : Transcript) (u : ℕ) (s : Sound w) where
 
   key-exponential : Exponential (w .t + w .a) (keyAt (w .t) (w .a) (w .key))
   unfolding keyAt
-  key-exponential = exponential-interpolated _ (w .t + w .a) _ (λ v l. s .keys (v + 1 - w .a) (omega arith))
+  key-exponential = exponential-interpolated _ (w .t + w .a) _ (λ v l. s .keys _ (omega arith))
 
   -- with need coefficients: a and t + a give t + 2a - 1
   response-exponential : Exponential (quorum (w .t) (w .a)) (responseAt w u)

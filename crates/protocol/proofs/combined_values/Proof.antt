@@ -9,7 +9,7 @@ use lib.ListN.{length, getD, List·getD-eq-default}
 use Rattle.lists.specs.Stores.{stored-none, getD-default}
 use Rattle.sets.specs.Masks.{has}
 use Rattle.field.specs.declared.Element.{Element}
-use Rattle.field.specs.Definitions.{element, identity, product}
+use Rattle.field.specs.Definitions.{identity, product}
 use Rattle.protocol.specs.Arrays.{base, commitmentIn, elements, combinedValue}
 use Rattle.protocol.proofs.Loops.{front, front-next, front-capped, combined-none, combined-skip, combined-take}
 use Rattle.protocol.proofs.combined_values.Statement.{statement}
@@ -81,7 +81,7 @@ value c =
     let full : length powers ≡ 1024 = s .good .0 .1 .0 .1 in
     let place : i .loop2 .i * 32 + l .loop .v ≡ base (i .loop2 .i + 1) + l .loop .v = omega arith in
     ⊎-elim
-    (λ w. w .2 ∙ getD-default powers _ (element 0) identity (omega (arith, w .0 .taken)) ∙ ap (λ (k : ℕ). getD powers k identity) place)
+    (λ w. w .2 ∙ getD-default powers _ _ identity (omega (arith, w .0 .taken)) ∙ ap (λ (k : ℕ). getD powers k identity) place)
     (λ w. w .1 ∙ sym (List·getD-eq-default powers identity (omega arith)))
     (c .if2 .came)
 

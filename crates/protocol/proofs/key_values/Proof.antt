@@ -7,7 +7,7 @@ use Prim.Native.Nat.{ℕ, _+_, _-_, _≤_, min}
 use lib.ListN.{length, getD, List·getD-eq-default}
 use Rattle.lists.specs.Stores.{stored-none, getD-default}
 use Rattle.field.specs.declared.Element.{Element}
-use Rattle.field.specs.Definitions.{element, identity}
+use Rattle.field.specs.Definitions.{identity}
 use Rattle.protocol.specs.Arrays.{elements}
 use Rattle.protocol.proofs.Loops.{front, front-next, front-capped}
 use Rattle.protocol.proofs.key_values.Statement.{statement}
@@ -68,7 +68,7 @@ loop-again c =
     let place : c .before .if1 .j ≡ l .v + 1 - s .args .a = ⊎-elim (λ w. omega arith) (λ w. omega arith) (c .before .if1 .came) in
     let value : c .if2 .values ≡ f (l .v) =
     ⊎-elim
-    (λ w. w .3 ∙ getD-default key _ (element 0) identity (omega (arith, w .0 .taken)) ∙ ap (λ (k : ℕ). getD key k identity) place)
+    (λ w. w .3 ∙ getD-default key _ _ identity (omega (arith, w .0 .taken)) ∙ ap (λ (k : ℕ). getD key k identity) place)
     (λ w. w .1 ∙ sym (List·getD-eq-default key identity (omega arith)))
     (c .if2 .came) in
     (omega arith, l .inv .1, front-next identity f (l .v) (l .inv .2) value)

@@ -8,7 +8,7 @@ use Prim.Native.Nat.{ℕ, _+_, _*_, _-_, _/_, _≤_, min}
 use lib.ListN.{length, getD, set}
 use Rattle.lists.specs.Stores.{stored, getD-default, stored-first, stored-capped}
 use Rattle.field.specs.declared.Element.{Element}
-use Rattle.field.specs.Definitions.{element, identity, powered}
+use Rattle.field.specs.Definitions.{identity, powered}
 use Rattle.protocol.specs.Arrays.{raised}
 use Rattle.protocol.proofs.raised.Statement.{statement}
 use Rattle.protocol.proofs.raised.Tie as tie
@@ -64,7 +64,7 @@ loop-again c =
       omega arith,
       l .inv .1,
       l .inv .2,
-      ap₂ (λ (r : List Element) (x : Element). set r (l .at) x) (l .inv .3) (c .power .ensures ∙ ap (λ (v : Element). powered v (l .at / 32 + 1)) (getD-default list (l .at) (element 0) identity (omega arith))) ∙ sym (stored-first list (l .at) (power-at list)),
+      ap₂ (λ (r : List Element) (x : Element). set r (l .at) x) (l .inv .3) (c .power .ensures ∙ ap (λ (v : Element). powered v (l .at / 32 + 1)) (getD-default list (l .at) _ identity (omega arith))) ∙ sym (stored-first list (l .at) (power-at list)),
     )
 
 returns : tie.Need-returns Inv-loop μ-loop

@@ -7,7 +7,7 @@ use lib.ListN.{length, getD}
 use Rattle.algebra.specs.Fold.{fold, fold-zero, fold-next}
 use Rattle.lists.specs.Stores.{getD-default}
 use Rattle.field.specs.declared.Element.{Element}
-use Rattle.field.specs.Definitions.{element, identity, raise, product as multiply}
+use Rattle.field.specs.Definitions.{identity, raise, product as multiply}
 use Rattle.interpolation.specs.Rows.{size, nth, productOf}
 use Rattle.interpolation.proofs.Row.product.Statement.{statement}
 use Rattle.interpolation.proofs.Row.product.Tie as tie
@@ -63,7 +63,7 @@ loop-again c =
     let a = s .args in
     let l = c .before .before .before .before .before .loop in
     let full : length (a .t2) ≡ 64 = s .good .1 .0 .1 .0 .1 in
-    let read = getD-default (a .t2) (l .i) (element 0) identity (omega arith) in (
+    let read = getD-default (a .t2) (l .i) _ identity (omega arith) in (
       omega arith,
       l .inv .1,
       c .mul .ensures ∙ ap₂ multiply (l .inv .2) (c .before .pow .ensures ∙ ap (λ (v : Element). raise v (nth (a .t1) (l .i))) read) ∙ sym (fold-next multiply identity (l .i) (λ k. raise (getD (a .t2) k identity) (nth (a .t1) k))),
