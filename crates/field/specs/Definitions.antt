@@ -1,6 +1,6 @@
 -- The two kinds of number, and what is done with them (document 01, "The bench and its two kinds of number").
 -- Every operation is total: it says what any two numbers give, in range or not.
-use Prim.Native.Nat.{ℕ, zero, suc, _+_, _*_, _-_, _/_, _%_, _^_}
+use Prim.Native.Nat.{ℕ, zero, suc, _+_, _*_, _-_, _/_, _%_, _^_, _<_}
 use mathlib.Core.Bool.{Bool, true, _&&_}
 use mathlib.Core.Path.{_≡_}
 use lib.Dec.{eqb, ltb}
@@ -71,20 +71,27 @@ power x e = scalar (powerOf q (x .0) e)
 unfoldable pub isElement : ℕ → Bool
 isElement v = ltb 0 v && (ltb v P && eqb (powerOf P v q) 1)
 
--- the generator
+-- the identity and the generator
+abbrev pub identity : Element
+identity = element 1
+
 abbrev pub generator : Element
 generator = element 4
+
+-- V and W are one
+unfoldable pub sameElement : Element → Element → Bool
+sameElement v w = eqb (v .0) (w .0)
 
 unfoldable pub product : Element → Element → Element
 product v w = element (v .0 * w .0 % P)
 
+-- V to the power of a whole number
+unfoldable pub powered : Element → ℕ → Element
+powered v e = element (powerOf P (v .0) e)
+
 -- V to the power of a scalar
 unfoldable pub raise : Element → Scalar → Element
-raise v x = element (powerOf P (v .0) (x .0))
-
--- V to the power of a whole number
-abbrev pub powered : Element → ℕ → Element
-powered v e = raise v (scalar e)
+raise v x = powered v (x .0)
 
 -- ---- what the laws are about
 
@@ -93,3 +100,7 @@ IsScalar x = isScalar (x .0) ≡ true
 
 abbrev pub IsElement : Element → Type 0
 IsElement v = isElement (v .0) ≡ true
+
+-- V is below P, an element or not, as every product and power is
+unfoldable pub Below : Element → Type 0
+Below v = v .0 < P

@@ -5,39 +5,39 @@ use mathlib.Core.Bool.{true}
 use Prim.Native.Nat.{ℕ, zero, suc, _+_, _*_, _-_, _^_, _/_, _%_, _≤_, _<_}
 use native.Mathlib.Omega.{arith}
 use native.Mathlib.Decide.{ℕ-discrete}
-use native.Mathlib.Nat.{mod-lt, mod-eq-of-lt, mod-mod, mod-self, zero-mod, le-refl, div-add-mod, pos-of-ne-zero, div-le-self}
+use native.Mathlib.Nat.{mod-lt, mod-eq-of-lt, mod-mod, mod-self, zero-mod, le-refl, div-add-mod, pos-of-ne-zero, div-le-self, lt-trans}
 use lib.Dec.{lit<}
 use borrow.Author.Tests.{lt-ltb, ltb-true}
 use Rattle.field.specs.declared.Scalar.{Scalar}
 use Rattle.field.specs.Definitions.{q, scalar, isScalar, IsScalar, reduced, plus, minus, times, inverseTo, inverseOf, inverse, power}
 use Rattle.field.specs.Congruence.{congruent, whole, mod-mul-mod, mul-mod-mod, strip, same}
 use Rattle.field.specs.Powers as W
-use Rattle.field.specs.Trial.{prime-by-trial}
+use Rattle.field.specs.Trial.{trial, prime-by-trial}
 use Rattle.field.specs.Order.{Inverse}
 
 -- ---- the modulus
 
-pub 1<q : 1 < q
+1<q : 1 < q
 unfolding q
 1<q = lit< tt
 
 -- party numbers, points and counts of a committee are far below q
-pub small<q : 100000 < q
+small<q : 100000 < q
 unfolding q
 small<q = lit< tt
 
--- a scalar has four bytes
-pub q<word : q < 2 ^ 32
+-- q has four bytes
+q<word : q < 2 ^ 32
 unfolding q
 q<word = lit< tt
 
-pub 0<q : 0 < q
+0<q : 0 < q
 0<q = omega (arith, 1<q)
 
 -- q is prime
 pub prime-q : (x : ℕ) → 1 < x → x < q → 0 < q % x
-unfolding q
-prime-q = prime-by-trial 500000003 22360 (lit< tt) tt
+unfolding q trial
+prime-q = prime-by-trial q 22360 (lit< tt) tt
 
 -- ---- range
 
@@ -48,6 +48,16 @@ in-range {x} l = lt-ltb x q l
 pub range : (x : ℕ) → isScalar x ≡ true → x < q
 unfolding isScalar
 range x e = ltb-true x q e
+
+-- a scalar has four bytes
+pub scalar-word : (x : Scalar) → IsScalar x → x .0 < 2 ^ 32
+scalar-word x h = lt-trans (range (x .0) h) q<word
+
+pub zero-range : IsScalar (scalar 0)
+zero-range = in-range 0<q
+
+pub one-range : IsScalar (scalar 1)
+one-range = in-range 1<q
 
 pub reduced-range : (x : ℕ) → IsScalar (reduced x)
 unfolding reduced
@@ -144,16 +154,16 @@ stripped : (x y : ℕ) → (x % q + (q - y % q % q)) % q ≡ (x + (q - y % q)) %
 stripped x y = simp strip
 
 -- and, of numbers that are small, only there
-pub difference-unique : (x y x′ y′ : ℕ) → x + y′ < q → x′ + y < q → minus (reduced x) (reduced y) ≡ minus (reduced x′) (reduced y′) → x + y′ ≡ x′ + y
+pub difference-unique : (x y x′ y′ : ℕ) → x + y′ ≤ 100000 → x′ + y ≤ 100000 → minus (reduced x) (reduced y) ≡ minus (reduced x′) (reduced y′) → x + y′ ≡ x′ + y
 unfolding minus reduced
 difference-unique x y x′ y′ l k e =
-    sym (mod-eq-of-lt l) ∙ congruent q (x + y′) (x′ + y) ((x′ + (q - y′)) / q) ((x + (q - y)) / q) (omega (arith, whole q (x + (q - y)) (x′ + (q - y′)) plain)) ∙ mod-eq-of-lt k
+    sym (mod-eq-of-lt (omega (arith, small<q))) ∙ congruent q (x + y′) (x′ + y) ((x′ + (q - y′)) / q) ((x + (q - y)) / q) (omega (arith, small<q, whole q (x + (q - y)) (x′ + (q - y′)) plain)) ∙ mod-eq-of-lt (omega (arith, small<q))
   where
     y-same : y % q ≡ y
-    y-same = mod-eq-of-lt (omega arith)
+    y-same = mod-eq-of-lt (omega (arith, small<q))
 
     y′-same : y′ % q ≡ y′
-    y′-same = mod-eq-of-lt (omega arith)
+    y′-same = mod-eq-of-lt (omega (arith, small<q))
 
     plain : (x + (q - y)) % q ≡ (x′ + (q - y′)) % q
     plain =

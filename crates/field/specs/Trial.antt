@@ -9,7 +9,7 @@ use native.Mathlib.Decide.{decLt}
 use lib.Dec.{T, ltb, ltb→lt}
 
 -- none of the k numbers from d on divides n
-abbrev pub trial : ℕ → ℕ → ℕ → Bool
+unfoldable pub trial : ℕ → ℕ → ℕ → Bool
 trial n zero d = true
 trial n (suc k) d = ltb 0 (n % d) && trial n k (suc d)
 
@@ -18,6 +18,7 @@ parts true b t = (tt, t)
 parts false b t = absurd t
 
 trial-at : (n k d : ℕ) → T (trial n k d) → (x : ℕ) → d ≤ x → x < d + k → 0 < n % x
+unfolding trial
 trial-at n zero d t x l h = omega arith
 trial-at n (suc k) d t x l h =
     let both = parts (ltb 0 (n % d)) (trial n k (suc d)) t in

@@ -1,7 +1,7 @@
 // Scalars modulo q and group elements modulo P, two kinds of number that are never taken for one another.
 ghost use mathlib.Core.Path.{_≡_};
 ghost use Prim.Native.Nat.{_<_};
-ghost use Rattle.field.specs.Definitions.{powerOf, reduced, plus, minus, times, inverse, power, isScalar, product, raise, isElement};
+ghost use Rattle.field.specs.Definitions.{powerOf, reduced, plus, minus, times, inverse, power, isScalar, sameElement, product, powered, raise, isElement};
 
 // A number from 0 to q - 1, counted modulo q.
 pub struct Scalar(pub u32);
@@ -116,6 +116,13 @@ impl Element {
         power_of(Element::MODULUS, x, Scalar::MODULUS) == 1
     }
 
+    // Whether both are one element.
+    pub fn same(self, other: Element) -> bool
+        ensures { λ r. ⌜ r ≡ sameElement self other ⌝ }
+    {
+        self.0 == other.0
+    }
+
     pub fn mul(self, other: Element) -> Element
         ensures { λ r. ⌜ r ≡ product self other ⌝ }
     {
@@ -123,10 +130,17 @@ impl Element {
         Element((full % 1000000007) as u32)
     }
 
-    // This element to the power of a scalar.
+    // This element to the power of a whole number.
+    pub fn power(self, exponent: u32) -> Element
+        ensures { λ r. ⌜ r ≡ powered self exponent ⌝ }
+    {
+        Element(power_of(Element::MODULUS, self.0, exponent))
+    }
+
+    // To the power of a scalar.
     pub fn pow(self, exponent: Scalar) -> Element
         ensures { λ r. ⌜ r ≡ raise self exponent ⌝ }
     {
-        Element(power_of(Element::MODULUS, self.0, exponent.0))
+        self.power(exponent.0)
     }
 }

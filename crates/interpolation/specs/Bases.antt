@@ -12,17 +12,14 @@ use Rattle.algebra.specs.Fold.{fold, fold-cong}
 use Rattle.lists.specs.Tests.{pick}
 use Rattle.field.specs.declared.Scalar.{Scalar}
 use Rattle.field.specs.Definitions.{scalar, IsScalar, minus, times, inverse}
-use Rattle.field.specs.ScalarLaws.{1<q, in-range, times-range, times-assoc, times-comm, times-one, inverse-times, inverse-one}
+use Rattle.field.specs.ScalarLaws.{one-range, times-range, times-assoc, times-comm, times-one, inverse-times, inverse-one}
 use Rattle.interpolation.specs.declared.Row.{Row}
 use Rattle.interpolation.specs.Definitions.{factor, weight}
-use Rattle.interpolation.specs.Rows.{size, nth, listed, weightsOf, differences, scale, basisOf, weightsBy, nth-listed, listed-cong}
+use Rattle.interpolation.specs.Rows.{size, nth, listed, weightsOf, differences, scale, basisOf, weightsBy, size-max, nth-listed, listed-cong}
 
 -- f 0 × .. × f (n - 1)
 abbrev ∏ : ℕ → (ℕ → Scalar) → Scalar
 ∏ n f = fold times (scalar 1) n f
-
-one-range : IsScalar (scalar 1)
-one-range = in-range 1<q
 
 pub product-range : (n : ℕ) (f : ℕ → Scalar) → IsScalar (∏ n f)
 unfolding fold
@@ -70,12 +67,12 @@ weights-by r x =
     let pt = nth r in
     let m = size r in
     listed-cong m (λ i. times (differences pt m i x) (nth (listed m (scale pt m)) i)) (λ i. weight pt m i x)
-    (λ i c. ap (λ (t : Scalar). times (differences pt m i x) t) (nth-listed m (scale pt m) i c (omega arith)) ∙ weight-is pt m i x)
+    (λ i c. ap (λ (t : Scalar). times (differences pt m i x) t) (nth-listed m (scale pt m) i c (size-max r)) ∙ weight-is pt m i x)
 
 -- ---- the points before and after one
 
 -- the product of x's differences from the first i points
-abbrev pub partialProduct : Row → Scalar → ℕ → Scalar
+unfoldable pub partialProduct : Row → Scalar → ℕ → Scalar
 partialProduct r x i = ∏ i (λ l. minus x (nth r l))
 
 -- these for i below the count
@@ -129,7 +126,7 @@ product-but (suc m) i g h = simp unary-clauses (go (ℕ-discrete m i) (product-b
 
 -- the partial products of the points in the other order
 reversed-products : (r : Row) (x : Scalar) (k : ℕ) → k < size r → nth (partialProducts (reversed r) x) k ≡ ∏ k (λ l. minus x (nth r (size r - 1 - l)))
-unfolding partialProducts reversed listed
+unfolding partialProducts reversed listed size partialProduct
 reversed-products r x k h =
     nth-listed (size (reversed r)) (partialProduct (reversed r) x) k (omega arith) (omega arith)
     ∙ fold-cong times (scalar 1) k (λ l c. ap (minus x) (nth-listed (size r) (λ i. nth r (size r - 1 - i)) l (omega arith) (omega arith)))
@@ -137,7 +134,7 @@ reversed-products r x k h =
 -- x's differences from all points but one, from the partial products of both orders
 pub differences-split : (r : Row) (x : Scalar) (i : ℕ) → i < size r
     → times (nth (partialProducts r x) i) (nth (partialProducts (reversed r) x) (size r - 1 - i)) ≡ differences (nth r) (size r) i x
-unfolding differences partialProducts
+unfolding differences partialProducts partialProduct
 differences-split r x i h =
-    ap₂ times (nth-listed (size r) (partialProduct r x) i h (omega arith)) (reversed-products r x (size r - 1 - i) (omega arith))
+    ap₂ times (nth-listed (size r) (partialProduct r x) i h (size-max r)) (reversed-products r x (size r - 1 - i) (omega arith))
     ∙ product-but (size r) i (λ l. minus x (nth r l)) h

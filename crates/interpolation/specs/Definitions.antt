@@ -6,22 +6,22 @@ use Rattle.algebra.specs.Fold.{fold}
 use Rattle.lists.specs.Tests.{pick}
 use Rattle.field.specs.declared.Scalar.{Scalar}
 use Rattle.field.specs.declared.Element.{Element}
-use Rattle.field.specs.Definitions.{scalar, element, reduced, plus, minus, times, inverse, product, raise}
+use Rattle.field.specs.Definitions.{scalar, identity, reduced, plus, minus, times, inverse, product, raise}
 
 -- the integer x - y, taken modulo q
 unfoldable pub point : ℕ → ℕ → Scalar
 point x y = minus (reduced x) (reduced y)
 
 -- holder or dealer j
-abbrev pub party : ℕ → Scalar
+unfoldable pub party : ℕ → Scalar
 party j = point j 0
 
 -- packed place k, the point 1 - k
-abbrev pub slot : ℕ → Scalar
+unfoldable pub slot : ℕ → Scalar
 slot k = point 1 k
 
 -- committed value number v, counted from 0, is at v + 1 - a
-abbrev pub committedPoint : ℕ → ℕ → Scalar
+unfoldable pub committedPoint : ℕ → ℕ → Scalar
 committedPoint a v = point (v + 1) a
 
 -- the factor of point l in weight i: (x - x_l) / (x_i - x_l), and none for l = i
@@ -38,7 +38,7 @@ scalarAt pt m f x = fold plus (scalar 0) m (λ i. times (weight pt m i x) (f i))
 
 -- elements as the product of value^weight
 unfoldable pub elementAt : (ℕ → Scalar) → ℕ → (ℕ → Element) → Scalar → Element
-elementAt pt m g x = fold product (element 1) m (λ i. raise (g i) (weight pt m i x))
+elementAt pt m g x = fold product identity m (λ i. raise (g i) (weight pt m i x))
 
 -- a polynomial by its coefficients, the constant one first
 unfoldable pub evaluate : List Scalar → Scalar → Scalar

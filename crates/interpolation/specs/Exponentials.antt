@@ -8,9 +8,9 @@ use Rattle.algebra.specs.Exponents.{interp, interp-poly, PolyG, polyG-unit, pol
 use Rattle.lists.specs.Tests.{pick}
 use Rattle.field.specs.declared.Scalar.{Scalar}
 use Rattle.field.specs.declared.Element.{Element}
-use Rattle.field.specs.Definitions.{scalar, element, IsElement, reduced, product, raise, powered}
+use Rattle.field.specs.Definitions.{identity, IsElement, reduced, product, raise, powered}
 use Rattle.field.specs.ScalarLaws.{reduced-range}
-use Rattle.field.specs.ElementLaws.{raise-reduced}
+use Rattle.field.specs.ElementLaws.{powered-reduced}
 use Rattle.interpolation.specs.Definitions.{elementAt}
 use Rattle.interpolation.specs.Structures.{Residue, residue, inv, Member, member-path, Group, Powers}
 use Rattle.interpolation.specs.Laws.{DistinctPoints, residues, apart, member, member-val, elementAt-val}
@@ -28,7 +28,7 @@ exponential-element p x = mathlib.Core.Path.subst IsElement (p .agrees x) (p .li
 pub exponential-wider : {n m : ℕ} {h : Scalar → Element} → n ≤ m → Exponential n h → Exponential m h
 exponential-wider l p = record { lift = p .lift; poly = polyG-le Powers l (p .poly); agrees = p .agrees }
 
-pub exponential-one : (n : ℕ) → Exponential n (λ x. element 1)
+pub exponential-one : (n : ℕ) → Exponential n (λ x. identity)
 exponential-one n = record { lift = λ x. Group .unit; poly = polyG-unit; agrees = λ x. refl }
 
 -- m elements interpolate to one with at most m coefficients
@@ -58,14 +58,14 @@ exponential-raise p r = record {
 pub exponential-powered : {n : ℕ} {h : Scalar → Element} → Exponential n h → (e : ℕ) → Exponential n (λ x. powered (h x) e)
 exponential-powered {n} {h} p e =
     let scaled = exponential-wider {m = n} (omega arith) (exponential-raise p (polynomial-constant (reduced e) (reduced-range e))) in
-    record { lift = scaled .lift; poly = scaled .poly; agrees = λ x. scaled .agrees x ∙ raise-reduced (h x) (exponential-element p x) (scalar e) }
+    record { lift = scaled .lift; poly = scaled .poly; agrees = λ x. scaled .agrees x ∙ powered-reduced (h x) (exponential-element p x) e }
 
 -- one that is taken or left out
-pub exponential-pick : {n : ℕ} {h : Scalar → Element} (b : Bool) → (b ≡ true → Exponential n h) → Exponential n (λ x. pick b (h x) (element 1))
+pub exponential-pick : {n : ℕ} {h : Scalar → Element} (b : Bool) → (b ≡ true → Exponential n h) → Exponential n (λ x. pick b (h x) identity)
 exponential-pick true p = p refl
 exponential-pick {n} false p = exponential-one n
 
-pub exponential-fold : {n : ℕ} (k : ℕ) (h : ℕ → Scalar → Element) → ((i : ℕ) → i < k → Exponential n (h i)) → Exponential n (λ x. fold product (element 1) k (λ i. h i x))
+pub exponential-fold : {n : ℕ} (k : ℕ) (h : ℕ → Scalar → Element) → ((i : ℕ) → i < k → Exponential n (h i)) → Exponential n (λ x. fold product identity k (λ i. h i x))
 unfolding fold
 exponential-fold {n} zero h p = exponential-one n
 exponential-fold (suc k) h p = exponential-product (exponential-fold k h (λ i l. p i (omega arith))) (p k (omega arith))

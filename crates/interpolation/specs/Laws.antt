@@ -13,9 +13,9 @@ use Rattle.algebra.specs.Weights as A
 use Rattle.algebra.specs.Exponents.{interp, interp-at}
 use Rattle.field.specs.declared.Scalar.{Scalar}
 use Rattle.field.specs.declared.Element.{Element}
-use Rattle.field.specs.Definitions.{q, scalar, element, isElement, IsScalar, IsElement, reduced, plus, minus, times, inverse, product, raise}
-use Rattle.field.specs.ScalarLaws.{small<q, reduced-same, minus-range, minus-plus, minus-reduced, times-reduced-left, times-comm, difference-same, difference-unique}
-use Rattle.field.specs.ElementLaws.{one-element, raise-zero, raise-plus, raise-times}
+use Rattle.field.specs.Definitions.{scalar, identity, isElement, IsScalar, IsElement, reduced, plus, minus, times, inverse, product, raise}
+use Rattle.field.specs.ScalarLaws.{reduced-same, minus-range, minus-plus, minus-reduced, times-reduced-left, times-comm, difference-same, difference-unique}
+use Rattle.field.specs.ElementLaws.{identity-element, raise-zero, raise-plus, raise-times}
 use Rattle.interpolation.specs.Definitions.{point, party, slot, committedPoint, factor, weight, scalarAt, elementAt}
 use Rattle.interpolation.specs.Structures.{Residue, residue, residue-path, Zq, inv, inv-is, Member, Group, Powers}
 
@@ -33,7 +33,16 @@ point-same x y x′ y′ e = difference-same x y x′ y′ e
 -- and, of small numbers, only there
 pub point-unique : (x y x′ y′ : ℕ) → x + y′ ≤ 100000 → x′ + y ≤ 100000 → point x y ≡ point x′ y′ → x + y′ ≡ x′ + y
 unfolding point
-point-unique x y x′ y′ l k e = difference-unique x y x′ y′ (omega (arith, small<q)) (omega (arith, small<q)) e
+point-unique x y x′ y′ l k e = difference-unique x y x′ y′ l k e
+
+-- the points of holders and dealers, and of packed places
+pub party-is : (j : ℕ) → party j ≡ point j 0
+unfolding party
+party-is j = refl
+
+pub slot-is : (k : ℕ) → slot k ≡ point 1 k
+unfolding slot
+slot-is k = refl
 
 -- the first m points have distinct residues
 abbrev pub DistinctPoints : ℕ → (ℕ → Scalar) → Type 0
@@ -46,18 +55,22 @@ points-distinct m x y b d i l hi hl ne e =
     d i l hi hl ne (point-unique (x i) (y i) (x l) (y l) (b i l hi hl) (b l i hl hi) (sym (reduced-same _ (point-range _ _)) ∙ e ∙ reduced-same _ (point-range _ _)))
 
 pub committed-distinct : (a m : ℕ) → a ≤ 255 → m ≤ 255 → DistinctPoints m (committedPoint a)
+unfolding committedPoint
 committed-distinct a m ha hm = points-distinct m (λ v. v + 1) (λ v. a) (λ i l hi hl. omega arith) (λ i l hi hl ne e. ne (omega arith))
 
 pub slots-distinct : (m : ℕ) → m ≤ 255 → DistinctPoints m (λ v. slot (v + 1))
+unfolding slot
 slots-distinct m hm = points-distinct m (λ v. 1) (λ v. v + 1) (λ i l hi hl. omega arith) (λ i l hi hl ne e. ne (omega arith))
 
 pub parties-distinct : (m : ℕ) (j : ℕ → ℕ) → ((i : ℕ) → i < m → j i ≤ 255) → ((i l : ℕ) → i < m → l < m → i ≢ l → j i ≢ j l)
     → DistinctPoints m (λ i. party (j i))
+unfolding party
 parties-distinct m j b d =
     points-distinct m j (λ v. 0) (λ i l hi hl. omega (arith, b i hi)) (λ i l hi hl ne e. d i l hi hl ne (omega arith))
 
 -- packed place k is committed point number a - k
 pub slot-committed : (a k : ℕ) → k ≤ a → slot k ≡ committedPoint a (a - k)
+unfolding slot committedPoint
 slot-committed a k l = point-same 1 k (a - k + 1) a (omega arith)
 
 -- ---- the definitions in the ring
@@ -117,7 +130,7 @@ module _ (pt : ℕ → Scalar) where
 
 member-by : (v : Element) (b : Bool) → isElement (v .0) ≡ b → Member
 member-by v true e = (v, e)
-member-by v false e = (element 1, one-element)
+member-by v false e = (identity, identity-element)
 
 -- any number as an element: 1 where it is none
 pub member : Element → Member
@@ -135,9 +148,9 @@ module _ (pt : ℕ → Scalar) (m : ℕ) (g : ℕ → Element) (elements : (i : 
   pub elementAt-val : (x : Scalar) → interp Powers inv (residues pt) m (λ v. member (g v)) (residue x) .0 ≡ elementAt pt m g x
   unfolding interp elementAt
   elementAt-val x =
-      fold-hom (Group .op) (Group .unit) product (element 1) (λ (z : Member). z .0) refl (λ a b. refl) m
+      fold-hom (Group .op) (Group .unit) product identity (λ (z : Member). z .0) refl (λ a b. refl) m
       (λ v. Powers .pow (member (g v)) (A.weight Zq inv (residues pt) m v (residue x)))
-      ∙ fold-cong product (element 1) m (λ i l. ap₂ raise (member-val (g i) (elements i l)) (weight-val pt m i x))
+      ∙ fold-cong product identity m (λ i l. ap₂ raise (member-val (g i) (elements i l)) (weight-val pt m i x))
 
   -- what elements interpolate to is an element
   pub elementAt-element : (x : Scalar) → IsElement (elementAt pt m g x)
@@ -165,5 +178,5 @@ pub raise-scalarAt : (v : Element) → IsElement v → (pt : ℕ → Scalar) (m 
     → raise v (scalarAt pt m f x) ≡ elementAt pt m (λ i. raise v (f i)) x
 unfolding scalarAt elementAt
 raise-scalarAt v h pt m f x =
-    fold-hom plus (scalar 0) product (element 1) (raise v) (raise-zero v) (raise-plus v h) m (λ i. times (weight pt m i x) (f i))
-    ∙ fold-cong product (element 1) m (λ i l. ap (raise v) (times-comm _ _) ∙ raise-times v h (f i) (weight pt m i x))
+    fold-hom plus (scalar 0) product identity (raise v) (raise-zero v) (raise-plus v h) m (λ i. times (weight pt m i x) (f i))
+    ∙ fold-cong product identity m (λ i l. ap (raise v) (times-comm _ _) ∙ raise-times v h (f i) (weight pt m i x))

@@ -10,13 +10,13 @@ use Rattle.lists.specs.Tests.{pick}
 use Rattle.lists.specs.Stores.{stored, filled, length-filled, stored-from, stored-cong}
 use Rattle.field.specs.declared.Scalar.{Scalar}
 use Rattle.field.specs.declared.Element.{Element}
-use Rattle.field.specs.Definitions.{scalar, element, plus, minus, times, inverse, product, raise}
+use Rattle.field.specs.Definitions.{scalar, identity, plus, minus, times, inverse, product, raise}
 use Rattle.interpolation.specs.declared.Row.{Row}
 use Rattle.interpolation.specs.declared.Basis.{Basis}
 use Rattle.interpolation.specs.Definitions.{factor, weight, scalarAt, elementAt}
 
 -- how many scalars a row has
-abbrev pub size : Row → ℕ
+unfoldable pub size : Row → ℕ
 size r = min (r .count) 64
 
 -- scalar i of a row
@@ -52,9 +52,13 @@ unfoldable pub sumOf : Row → List Scalar → Scalar
 sumOf w values = fold plus (scalar 0) (size w) (λ i. times (nth w i) (getD values i (scalar 0)))
 
 unfoldable pub productOf : Row → List Element → Element
-productOf w values = fold product (element 1) (size w) (λ i. raise (getD values i (element 0)) (nth w i))
+productOf w values = fold product identity (size w) (λ i. raise (getD values i identity) (nth w i))
 
 -- ---- for callers
+
+pub size-max : (r : Row) → size r ≤ 64
+unfolding size
+size-max r = omega arith
 
 -- a listed row has what was listed
 pub nth-listed : (m : ℕ) (f : ℕ → Scalar) (i : ℕ) → i < m → m ≤ 64 → nth (listed m f) i ≡ f i
@@ -63,7 +67,7 @@ nth-listed m f i l h =
     stored-from (filled 64 (scalar 0)) (min m 64) f (scalar 0) (omega (arith, length-filled 64 (scalar 0))) i (omega arith)
 
 pub size-listed : (m : ℕ) (f : ℕ → Scalar) → m ≤ 64 → size (listed m f) ≡ m
-unfolding listed
+unfolding size listed
 size-listed m f h = omega arith
 
 pub listed-cong : (m : ℕ) (f g : ℕ → Scalar) → ((i : ℕ) → i < m → f i ≡ g i) → listed m f ≡ listed m g
@@ -93,7 +97,7 @@ pub elementAt-cong : (pt pt′ : ℕ → Scalar) (m : ℕ) (f g : ℕ → Elemen
     → ((i : ℕ) → i < m → f i ≡ g i)
     → elementAt pt m f x ≡ elementAt pt′ m g x
 unfolding elementAt
-elementAt-cong pt pt′ m f g x e v = fold-cong product (element 1) m (λ i c. ap₂ raise (v i c) (weight-cong pt pt′ m i x c e))
+elementAt-cong pt pt′ m f g x e v = fold-cong product identity m (λ i c. ap₂ raise (v i c) (weight-cong pt pt′ m i x c e))
 
 -- the weights of a listed row, and what they make of values
 pub weights-listed : (m : ℕ) (pt : ℕ → Scalar) (x : Scalar) → m ≤ 64 → weightsOf (listed m pt) x ≡ listed m (λ i. weight pt m i x)
@@ -113,9 +117,9 @@ sum-weights m pt x values h =
 
 pub product-weights : (m : ℕ) (pt : ℕ → Scalar) (x : Scalar) (values : List Element)
     → m ≤ 64
-    → productOf (weightsOf (listed m pt) x) values ≡ elementAt pt m (λ i. getD values i (element 0)) x
+    → productOf (weightsOf (listed m pt) x) values ≡ elementAt pt m (λ i. getD values i identity) x
 unfolding productOf elementAt
 product-weights m pt x values h =
     ap (λ (w : Row). productOf w values) (weights-listed m pt x h)
-    ∙ ap (λ (k : ℕ). fold product (element 1) k (λ i. raise (getD values i (element 0)) (nth (listed m (λ i. weight pt m i x)) i))) (size-listed m (λ i. weight pt m i x) h)
-    ∙ fold-cong product (element 1) m (λ i c. ap (λ (w : Scalar). raise (getD values i (element 0)) w) (nth-listed m (λ i. weight pt m i x) i c h))
+    ∙ ap (λ (k : ℕ). fold product identity k (λ i. raise (getD values i identity) (nth (listed m (λ i. weight pt m i x)) i))) (size-listed m (λ i. weight pt m i x) h)
+    ∙ fold-cong product identity m (λ i c. ap (λ (w : Scalar). raise (getD values i identity) w) (nth-listed m (λ i. weight pt m i x) i c h))

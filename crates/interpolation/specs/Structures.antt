@@ -8,9 +8,9 @@ use Rattle.algebra.specs.Ring.{CommRing}
 use Rattle.algebra.specs.Exponents.{Exponents}
 use Rattle.field.specs.declared.Scalar.{Scalar}
 use Rattle.field.specs.declared.Element.{Element}
-use Rattle.field.specs.Definitions.{scalar, element, isScalar, isElement, IsScalar, IsElement, reduced, plus, minus, times, inverse, product, raise}
-use Rattle.field.specs.ScalarLaws.{0<q, 1<q, in-range, reduced-range, plus-range, minus-range, times-range, inverse-range, plus-assoc, plus-comm, plus-zero, plus-opposite, times-assoc, times-comm, times-one, times-plus, times-inverse}
-use Rattle.field.specs.ElementLaws.{below, one-element, product-element, raise-element, product-assoc, product-comm, product-one, product-raise, one-raise, raise-zero, raise-one, raise-plus, raise-times}
+use Rattle.field.specs.Definitions.{scalar, identity, isScalar, isElement, IsScalar, IsElement, reduced, plus, minus, times, inverse, product, raise}
+use Rattle.field.specs.ScalarLaws.{zero-range, one-range, reduced-range, plus-range, minus-range, times-range, inverse-range, plus-assoc, plus-comm, plus-zero, plus-opposite, times-assoc, times-comm, times-one, times-plus, times-inverse}
+use Rattle.field.specs.ElementLaws.{below, identity-element, product-element, raise-element, product-assoc, product-comm, product-one, product-raise, identity-raise, raise-zero, raise-one, raise-plus, raise-times}
 
 -- ---- the ring
 
@@ -30,8 +30,8 @@ Zq = record {
   add = λ x y. (plus (x .0) (y .0), plus-range (x .0) (y .0));
   mul = λ x y. (times (x .0) (y .0), times-range (x .0) (y .0));
   neg = λ x. (minus (scalar 0) (x .0), minus-range (scalar 0) (x .0));
-  zero = (scalar 0, in-range 0<q);
-  one = (scalar 1, in-range 1<q);
+  zero = (scalar 0, zero-range);
+  one = (scalar 1, one-range);
   add-assoc = λ x y z. residue-path (plus-assoc (x .0) (y .0) (z .0));
   add-comm = λ x y. residue-path (plus-comm (x .0) (y .0));
   add-zero = λ x. residue-path (plus-zero (x .0) (x .1));
@@ -59,7 +59,7 @@ member-path {v} {w} p = Σ-prop-path (λ z. Bool-set (isElement (z .0)) true) {u
 abbrev pub Group : CommMonoid Member
 Group = record {
   op = λ v w. (product (v .0) (w .0), product-element (v .0) (w .0) (v .1) (w .1));
-  unit = (element 1, one-element);
+  unit = (identity, identity-element);
   assoc = λ u v w. member-path (product-assoc (u .0) (v .0) (w .0));
   comm = λ v w. member-path (product-comm (v .0) (w .0));
   op-unit = λ v. member-path (product-one (v .0) (below (v .0) (v .1)));
@@ -73,5 +73,5 @@ Powers = record {
   op-pow = λ v w x. member-path (product-raise (v .0) (w .0) (x .0));
   pow-one = λ v. member-path (raise-one (v .0) (below (v .0) (v .1)));
   pow-zero = λ v. member-path (raise-zero (v .0));
-  unit-pow = λ x. member-path (one-raise (x .0));
+  unit-pow = λ x. member-path (identity-raise (x .0));
 }

@@ -1,7 +1,7 @@
 -- Runs of stores into a list, and a list filled with one element, at any element type; and their laws.
 -- Assumes nothing.
 use mathlib.Core.Path.{_≡_, refl, sym, ap, ap₂, _∙_}
-use mathlib.Core.List.{List}
+use mathlib.Core.List.{List, [], _∷_}
 use mathlib.Core.Logic.{_≢_}
 use Prim.Native.Nat.{ℕ, zero, suc, _+_, _-_, _≤_, _<_, min}
 use native.Mathlib.Omega.{arith}
@@ -80,6 +80,12 @@ module _ {A : Type 0} where
   unfolding stored
   stored-cong l base zero f g h = refl
   stored-cong l base (suc k) f g h = ap₂ (λ (r : List A) (x : A). set r (base + k) x) (stored-cong l base k f g (λ i c. h i (omega arith))) (h k (omega arith))
+
+  -- within the list the default does not count
+  pub getD-default : (l : List A) (i : ℕ) (d e : A) → i < length l → getD l i d ≡ getD l i e
+  getD-default [] i d e h = absurd (omega arith)
+  getD-default (x ∷ l) zero d e h = refl
+  getD-default (x ∷ l) (suc i) d e h = getD-default l i d e (omega arith)
 
   -- ---- one element throughout
 

@@ -2,19 +2,17 @@
 use mathlib.Core.Path.{_≡_, sym, ap, ap₂, _∙_}
 use mathlib.Core.Bool.{Bool, true, false}
 use mathlib.Core.List.{List, [], _∷_, _++_}
-use Prim.Native.Nat.{ℕ, _+_, _^_, _<_, min}
-use native.Mathlib.Nat.{pow-zero}
+use Prim.Native.Nat.{ℕ, _+_, min}
 use native.Mathlib.Omega.{arith}
 use lib.ListN.{length, getD, set, replicate, length-append, List·getD-append}
 use lib.Seq.{getD-append-seam}
-use Rattle.algebra.specs.Fold.{fold-zero, fold-next, fold-keeps}
-use Rattle.lists.specs.Tests.{pick, pick-case}
 use Rattle.lists.specs.Stores.{stored, filled, stored-none, stored-first, stored-capped, stored-cong, length-filled}
 use Rattle.sets.specs.Masks.{members, count}
 use Rattle.sets.specs.MemberLaws.{members-next, count-none}
 use Rattle.field.specs.declared.Element.{Element}
-use Rattle.field.specs.Definitions.{P, element, product, powered}
-use Rattle.field.specs.ElementLaws.{1<P, product-below, raise-below, product-one, product-powered}
+use Rattle.field.specs.Definitions.{identity, product, powered}
+use Rattle.field.specs.ElementLaws.{product-powered-one}
+use Rattle.protocol.specs.Products.{productOver-none, productOver-skip, productOver-take, exponent-first}
 use Rattle.protocol.specs.Arrays.{combinedValue}
 
 -- the array once k values are stored
@@ -74,26 +72,19 @@ module _ {A : Type 0} (d : A) (g : ℕ → A) (f : ℕ → Bool) where
 
 -- ---- the product over a set of dealers, one dealer a turn
 module _ (qual : ℕ → Bool) (values : ℕ → ℕ → Element) (v : ℕ) where
-  pub combined-none : element 1 ≡ combinedValue 0 qual values 1 v
+  pub combined-none : identity ≡ combinedValue 0 qual values 1 v
   unfolding combinedValue
-  combined-none = sym (fold-zero product (element 1) _)
-
-  combined-next : (i : ℕ) → combinedValue (i + 1) qual values 1 v ≡ product (combinedValue i qual values 1 v) (pick (qual (i + 1)) (powered (values (i + 1) v) ((i + 1) ^ 0)) (element 1))
-  unfolding combinedValue
-  combined-next i = fold-next product (element 1) i _
-
-  combined-below : (i : ℕ) → combinedValue i qual values 1 v .0 < P
-  unfolding combinedValue
-  combined-below i =
-      fold-keeps product (element 1) (λ w. w .0 < P) 1<P (λ w z p q. product-below w z) i
-      (λ l c. pick-case (λ w. w .0 < P) (qual (l + 1)) _ (element 1) (λ e. raise-below _ _) (λ e. 1<P))
+  combined-none = sym (productOver-none qual _)
 
   -- a dealer that is not in the set
   pub combined-skip : (i : ℕ) → qual (i + 1) ≡ false → combinedValue (i + 1) qual values 1 v ≡ combinedValue i qual values 1 v
-  combined-skip i e = combined-next i ∙ rw e (product-one (combinedValue i qual values 1 v) (combined-below i))
+  unfolding combinedValue
+  combined-skip i e = productOver-skip qual _ i e
 
   -- one that is
   pub combined-take : (i : ℕ) → qual (i + 1) ≡ true → combinedValue (i + 1) qual values 1 v ≡ product (combinedValue i qual values 1 v) (values (i + 1) v)
+  unfolding combinedValue
   combined-take i e =
-      combined-next i ∙ rw e
-      (ap (λ (k : ℕ). product (combinedValue i qual values 1 v) (powered (values (i + 1) v) k)) (pow-zero (i + 1)) ∙ product-powered (combinedValue i qual values 1 v) (values (i + 1) v))
+      productOver-take qual _ i e
+      ∙ ap (λ (k : ℕ). product (combinedValue i qual values 1 v) (powered (values (i + 1) v) k)) (exponent-first _)
+      ∙ product-powered-one (combinedValue i qual values 1 v) (values (i + 1) v)

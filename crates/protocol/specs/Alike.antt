@@ -1,17 +1,15 @@
 -- Transcripts that are alike in setup, QUAL, the commitments of QUAL's dealers and the challenges have the same nonce commitments. Assumes nothing.
-use mathlib.Core.Path.{_≡_, refl, sym, ap, ap₂, _∙_}
-use mathlib.Core.Bool.{Bool, true, false, true≢false}
-use Prim.Native.Nat.{ℕ, _+_, _-_, _^_, _≤_, _<_}
-use native.Mathlib.Omega.{arith}
-use Rattle.algebra.specs.Fold.{fold, fold-cong}
-use Rattle.lists.specs.Tests.{pick}
+use mathlib.Core.Path.{_≡_, refl, ap, ap₂, _∙_}
+use mathlib.Core.Bool.{true}
+use Prim.Native.Nat.{ℕ, _≤_, _<_}
 use Rattle.field.specs.declared.Scalar.{Scalar}
 use Rattle.field.specs.declared.Element.{Element}
-use Rattle.field.specs.Definitions.{element, product, powered}
+use Rattle.field.specs.Definitions.{powered}
 use Rattle.interpolation.specs.Definitions.{slot, committedPoint, elementAt}
 use Rattle.interpolation.specs.Rows.{elementAt-cong}
 use Rattle.records.specs.Parameters.{quorum, batch}
-use Rattle.protocol.specs.Transcript.{Transcript, dealingAt, combinedAt, nonce}
+use Rattle.protocol.specs.Transcript.{Transcript, dealingAt, exponent, productOver, combinedAt, nonce}
+use Rattle.protocol.specs.Products.{productOver-cong}
 
 pub record Alike (w z : Transcript) : Type 0 where
   pub n-same : w .n ≡ z .n
@@ -33,16 +31,9 @@ module _ (w z : Transcript) (h : Alike w z) where
   combined-same : (u : ℕ) (x : Scalar) → combinedAt w u x ≡ combinedAt z u x
   unfolding combinedAt
   combined-same u x =
-      fold-cong product (element 1) (w .n) (λ i l. go i l (w .qual (i + 1)) (z .qual (i + 1)) refl (h .qual-same (i + 1) (omega arith) (omega arith)))
-      ∙ ap (λ (n : ℕ). fold product (element 1) n (λ i. pick (z .qual (i + 1)) (powered (dealingAt (z .t) (z .a) (z .commitment (i + 1)) x) ((i + 1) ^ (u - 1))) (element 1))) (h .n-same)
-    where
-      go : (i : ℕ) → i < w .n → (b c : Bool) → w .qual (i + 1) ≡ b → w .qual (i + 1) ≡ c
-          → pick b (powered (dealingAt (w .t) (w .a) (w .commitment (i + 1)) x) ((i + 1) ^ (u - 1))) (element 1)
-          ≡ pick c (powered (dealingAt (z .t) (z .a) (z .commitment (i + 1)) x) ((i + 1) ^ (u - 1))) (element 1)
-      go i l true true e d = ap (λ (v : Element). powered v ((i + 1) ^ (u - 1))) (dealing-same (i + 1) x (omega arith) (omega arith) e)
-      go i l true false e d = absurd (true≢false (sym e ∙ d))
-      go i l false true e d = absurd (true≢false (sym d ∙ e))
-      go i l false false e d = refl
+      productOver-cong (w .n) (w .qual) (z .qual) _ (λ i. powered (dealingAt (z .t) (z .a) (z .commitment i) x) (exponent i u)) (h .qual-same)
+      (λ i p l e. ap (λ (v : Element). powered v (exponent i u)) (dealing-same i x p l e))
+      ∙ ap (λ (n : ℕ). productOver n (z .qual) (λ i. powered (dealingAt (z .t) (z .a) (z .commitment i) x) (exponent i u))) (h .n-same)
 
   pub nonce-same : (u k : ℕ) → nonce w u k ≡ nonce z u k
   unfolding nonce

@@ -4,20 +4,25 @@ use mathlib.Core.List.{List}
 use Prim.Native.Nat.{ℕ, _+_, _-_, _^_, _≤_, _<_}
 use native.Mathlib.Omega.{arith}
 use lib.ListN.{length, getD}
-use Rattle.lists.specs.Stores.{filled, length-filled, stored-from}
+use Rattle.lists.specs.Stores.{filled, length-filled, length-stored, stored-from}
 use Rattle.sets.specs.Masks.{has, members, count}
 use Rattle.sets.specs.MemberLaws.{count-bits}
 use Rattle.field.specs.declared.Scalar.{Scalar}
 use Rattle.field.specs.declared.Element.{Element}
-use Rattle.field.specs.Definitions.{scalar, element}
+use Rattle.field.specs.Definitions.{scalar, identity}
 use Rattle.interpolation.specs.Definitions.{party, slot, committedPoint, scalarAt, elementAt}
 use Rattle.interpolation.specs.Rows.{listed, weightsOf, sumOf, productOf, scalarAt-cong, elementAt-cong, sum-weights, product-weights}
 use Rattle.protocol.specs.Arrays.{base, challengeIn, elements, scalars, memberPoints, memberNumbers}
 
--- what was stored is read there
-pub elements-at : (m : ℕ) (f : ℕ → Element) (i : ℕ) → i < m → m ≤ 64 → getD (elements m f) i (element 0) ≡ f i
+-- sixty-four places
+pub elements-length : (m : ℕ) (f : ℕ → Element) → length (elements m f) ≡ 64
 unfolding elements
-elements-at m f i l h = stored-from (filled 64 (element 0)) m f (element 0) (omega (arith, length-filled 64 (element 0))) i l
+elements-length m f = length-stored (filled 64 identity) 0 m f ∙ length-filled 64 identity
+
+-- what was stored is read there
+pub elements-at : (m : ℕ) (f : ℕ → Element) (i : ℕ) → i < m → m ≤ 64 → getD (elements m f) i identity ≡ f i
+unfolding elements
+elements-at m f i l h = stored-from (filled 64 identity) m f identity (omega (arith, length-filled 64 identity)) i l
 
 pub scalars-at : (m : ℕ) (f : ℕ → Scalar) (i : ℕ) → i < m → m ≤ 64 → getD (scalars m f) i (scalar 0) ≡ f i
 unfolding scalars
@@ -34,7 +39,7 @@ pub values-interpolated : (m a : ℕ) (f : ℕ → Element) (x : Scalar)
     → productOf (weightsOf (listed m (committedPoint a)) x) (elements m f) ≡ elementAt (committedPoint a) m f x
 values-interpolated m a f x h =
     product-weights m (committedPoint a) x (elements m f) h
-    ∙ elementAt-cong (committedPoint a) (committedPoint a) m (λ i. getD (elements m f) i (element 0)) f x (λ i l. refl) (λ i l. elements-at m f i l h)
+    ∙ elementAt-cong (committedPoint a) (committedPoint a) m (λ i. getD (elements m f) i identity) f x (λ i l. refl) (λ i l. elements-at m f i l h)
 
 -- E_u(x) from the challenges
 pub challenges-interpolated : (a : ℕ) (list : List Scalar) (u : ℕ) (x : Scalar)

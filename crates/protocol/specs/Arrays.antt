@@ -1,18 +1,17 @@
 -- The public values of a committee as a run keeps them: flat arrays, party i's values from (i - 1) × 32 on.
-use Prim.Native.Nat.{ℕ, zero, suc, _+_, _*_, _-_, _/_, _^_}
+use Prim.Native.Nat.{ℕ, zero, suc, _+_, _*_, _-_, _/_}
 use mathlib.Core.Bool.{Bool}
 use mathlib.Core.List.{List}
 use lib.ListN.{getD}
-use Rattle.algebra.specs.Fold.{fold}
-use Rattle.lists.specs.Tests.{pick}
 use Rattle.lists.specs.Stores.{stored, filled}
 use Rattle.sets.specs.Masks.{has, members, count}
 use Rattle.field.specs.declared.Scalar.{Scalar}
 use Rattle.field.specs.declared.Element.{Element}
-use Rattle.field.specs.Definitions.{scalar, element, product, powered}
+use Rattle.field.specs.Definitions.{scalar, identity, powered}
 use Rattle.interpolation.specs.declared.Row.{Row}
 use Rattle.interpolation.specs.Definitions.{party}
 use Rattle.interpolation.specs.Rows.{listed}
+use Rattle.protocol.specs.Transcript.{exponent, productOver}
 
 -- where party i's values begin
 unfoldable pub base : ℕ → ℕ
@@ -24,7 +23,7 @@ cell a u k = (u - 1) * a + (k - 1)
 
 -- dealer i's committed value number v
 abbrev pub commitmentIn : List Element → ℕ → ℕ → Element
-commitmentIn list i v = getD list (base i + v) (element 0)
+commitmentIn list i v = getD list (base i + v) identity
 
 -- e(u,k)
 abbrev pub challengeIn : ℕ → List Scalar → ℕ → ℕ → Scalar
@@ -32,19 +31,18 @@ challengeIn a list u k = getD list (cell a u k) (scalar 0)
 
 -- a list of m elements, or scalars, at the front of 64 places
 unfoldable pub elements : ℕ → (ℕ → Element) → List Element
-elements m f = stored (filled 64 (element 0)) 0 m f
+elements m f = stored (filled 64 identity) 0 m f
 
 unfoldable pub scalars : ℕ → (ℕ → Scalar) → List Scalar
 scalars m f = stored (filled 64 (scalar 0)) 0 m f
 
 -- the committed values combined for u: at v the product over a set of dealers of V_i(v)^(i^(u-1))
 unfoldable pub combinedValue : ℕ → (ℕ → Bool) → (ℕ → ℕ → Element) → ℕ → ℕ → Element
-combinedValue n qual commitment u v =
-    fold product (element 1) n (λ i. pick (qual (i + 1)) (powered (commitment (i + 1) v) ((i + 1) ^ (u - 1))) (element 1))
+combinedValue n qual commitment u v = productOver n qual (λ i. powered (commitment i v) (exponent i u))
 
 -- the committed values of n dealers, each to the power of its dealer's number
 unfoldable pub raised : ℕ → List Element → List Element
-raised n list = stored list 0 (n * 32) (λ p. powered (getD list p (element 0)) (p / 32 + 1))
+raised n list = stored list 0 (n * 32) (λ p. powered (getD list p identity) (p / 32 + 1))
 
 -- the committed values to the power of i^u, by u such steps
 unfoldable pub powersAt : ℕ → List Element → ℕ → List Element

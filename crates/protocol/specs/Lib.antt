@@ -1,4 +1,5 @@
 pub mod Transcript
+pub mod Products
 pub mod Arrays
 pub mod ArrayLaws
 pub mod Alike

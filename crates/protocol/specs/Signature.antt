@@ -3,7 +3,7 @@
 use mathlib.Core.Path.{_≡_, refl, sym, ap, ap₂, subst, _∙_}
 use mathlib.Core.Logic.{_≢_}
 use mathlib.Core.Bool.{true}
-use Prim.Native.Nat.{ℕ, _+_, _-_, _^_, _≤_, _<_}
+use Prim.Native.Nat.{ℕ, _+_, _-_, _≤_, _<_}
 use native.Mathlib.Omega.{arith}
 use Rattle.field.specs.declared.Scalar.{Scalar}
 use Rattle.field.specs.declared.Element.{Element}
@@ -16,7 +16,7 @@ use Rattle.interpolation.specs.Exponentials.{Exponential, exponential-wider, ex
 use Rattle.interpolation.specs.Rows.{elementAt-cong}
 use Rattle.records.specs.Parameters.{quorum}
 use Rattle.records.specs.Laws.{Bounds, quorum-is}
-use Rattle.protocol.specs.Transcript.{Transcript, dealingAt, keyAt, combinedAt, nonce, challengeAt, responseAt}
+use Rattle.protocol.specs.Transcript.{Transcript, dealingAt, keyAt, exponent, productOver, combinedAt, nonce, challengeAt, responseAt}
 
 -- what a run at stage 4 keeps: parameters within the bounds, a key and commitments of QUAL that are elements
 pub record Sound (w : Transcript) : Type 0 where
@@ -26,16 +26,16 @@ pub record Sound (w : Transcript) : Type 0 where
 
 module _ (w : Transcript) (u : ℕ) (s : Sound w) where
   combined-exponential : Exponential (quorum (w .t) (w .a)) (combinedAt w u)
-  unfolding combinedAt dealingAt
+  unfolding combinedAt productOver dealingAt
   combined-exponential =
       exponential-fold (w .n) _ (λ i l. exponential-pick (w .qual (i + 1)) (λ e.
       exponential-powered
       (exponential-interpolated (committedPoint (w .a)) (quorum (w .t) (w .a)) (w .commitment (i + 1)) (λ v k. s .commitments (i + 1) v (omega arith) (omega arith) e k))
-      ((i + 1) ^ (u - 1))))
+      (exponent (i + 1) u)))
 
-  key-exponential : Exponential (w .t + w .a) (keyAt w)
+  key-exponential : Exponential (w .t + w .a) (keyAt (w .t) (w .a) (w .key))
   unfolding keyAt
-  key-exponential = exponential-interpolated _ (w .t + w .a) _ (λ v l. s .keys (v + 1 - w .a) (omega arith))
+  key-exponential = exponential-interpolated _ (w .t + w .a) _ (λ v l. s .keys _ (omega arith))
 
   -- with need coefficients: a and t + a give t + 2a - 1
   response-exponential : Exponential (quorum (w .t) (w .a)) (responseAt w u)
@@ -46,10 +46,10 @@ module _ (w : Transcript) (u : ℕ) (s : Sound w) where
       (exponential-raise key-exponential (polynomial-interpolated (λ v. slot (v + 1)) (w .a) _)))
 
   -- at a packed slot: S, and e(u,k)
-  key-slot : (k : ℕ) → 0 < k → k ≤ w .a → keyAt w (slot k) ≡ w .key 0
+  key-slot : (k : ℕ) → 0 < k → k ≤ w .a → keyAt (w .t) (w .a) (w .key) (slot k) ≡ w .key 0
   unfolding keyAt
   key-slot k p l =
-      ap (keyAt w) (slot-committed (w .a) k l)
+      ap (keyAt (w .t) (w .a) (w .key)) (slot-committed (w .a) k l)
       ∙ elementAt-point (committedPoint (w .a)) (w .t + w .a) (λ v. w .key (v + 1 - w .a)) (λ v h. s .keys (v + 1 - w .a) (omega arith))
       (committed-distinct (w .a) (w .t + w .a) (omega (arith, s .bounds .enough, s .bounds .n-max)) (omega (arith, s .bounds .enough, s .bounds .n-max)))
       (w .a - k) (omega (arith, s .bounds .t-pos))

@@ -1,12 +1,11 @@
 -- What the public values of a committee come to (document 01, "Points and weights").
 use Prim.Native.Nat.{ℕ, _+_, _-_, _^_}
 use mathlib.Core.Bool.{Bool}
-use lib.Dec.{eqb}
 use Rattle.algebra.specs.Fold.{fold}
 use Rattle.lists.specs.Tests.{pick}
 use Rattle.field.specs.declared.Scalar.{Scalar}
 use Rattle.field.specs.declared.Element.{Element}
-use Rattle.field.specs.Definitions.{scalar, element, generator, power, product, raise, powered}
+use Rattle.field.specs.Definitions.{scalar, identity, generator, sameElement, power, product, powered, raise}
 use Rattle.interpolation.specs.Definitions.{party, slot, committedPoint, scalarAt, elementAt}
 use Rattle.records.specs.Parameters.{quorum}
 
@@ -26,22 +25,27 @@ dealingAt t a values x = elementAt (committedPoint a) (quorum t a) values x
 
 -- a share is valid (right) for j: 4^share is what the committed values come to at j
 unfoldable pub validShare : ℕ → ℕ → (ℕ → Element) → ℕ → Scalar → Bool
-validShare t a values j share = eqb (raise generator share .0) (dealingAt t a values (party j) .0)
+validShare t a values j share = sameElement (raise generator share) (dealingAt t a values (party j))
 
--- i^(u-1) as a scalar, i being the dealer's number
+-- S_x, from S at the points 1-a to 0 and S_1 to S_t
+unfoldable pub keyAt : ℕ → ℕ → (ℕ → Element) → Scalar → Element
+keyAt t a key x = elementAt (committedPoint a) (t + a) (λ v. key (v + 1 - a)) x
+
+-- i^(u-1), i being the dealer's number: a whole number as an exponent, a scalar as a coefficient
+unfoldable pub exponent : ℕ → ℕ → ℕ
+exponent i u = i ^ (u - 1)
+
 unfoldable pub coefficient : ℕ → ℕ → Scalar
 coefficient i u = power (scalar i) (u - 1)
 
-module _ (w : Transcript) where
-  -- S_x, from S at the points 1-a to 0 and S_1 to S_t
-  unfoldable pub keyAt : Scalar → Element
-  keyAt x = elementAt (committedPoint (w .a)) (w .t + w .a) (λ v. w .key (v + 1 - w .a)) x
+-- the product over a set of the dealers 1 to n
+unfoldable pub productOver : ℕ → (ℕ → Bool) → (ℕ → Element) → Element
+productOver n set f = fold product identity n (λ i. pick (set (i + 1)) (f (i + 1)) identity)
 
+module _ (w : Transcript) where
   -- C_u(x): the product over QUAL of C_i(x)^(i^(u-1)), i being the dealer's number
   unfoldable pub combinedAt : ℕ → Scalar → Element
-  combinedAt u x =
-      fold product (element 1) (w .n)
-      (λ i. pick (w .qual (i + 1)) (powered (dealingAt (w .t) (w .a) (w .commitment (i + 1)) x) ((i + 1) ^ (u - 1))) (element 1))
+  combinedAt u x = productOver (w .n) (w .qual) (λ i. powered (dealingAt (w .t) (w .a) (w .commitment i) x) (exponent i u))
 
   -- R(u,k)
   unfoldable pub nonce : ℕ → ℕ → Element
@@ -53,8 +57,8 @@ module _ (w : Transcript) where
 
   -- C_u(x) × S_x^E_u(x): what 4^number is where a response number passes
   unfoldable pub responseAt : ℕ → Scalar → Element
-  responseAt u x = product (combinedAt u x) (raise (keyAt x) (challengeAt u x))
+  responseAt u x = product (combinedAt u x) (raise (keyAt (w .t) (w .a) (w .key) x) (challengeAt u x))
 
   -- the response number of j for u passes
   unfoldable pub passes : ℕ → ℕ → Scalar → Bool
-  passes u j number = eqb (raise generator number .0) (responseAt u (party j) .0)
+  passes u j number = sameElement (raise generator number) (responseAt u (party j))

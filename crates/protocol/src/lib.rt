@@ -2,9 +2,8 @@
 ghost use mathlib.Core.Path.{_≡_};
 ghost use Prim.Native.Nat.{_+_, _-_, min};
 ghost use lib.ListN.{getD};
-ghost use lib.Dec.{eqb};
 ghost use Rattle.sets.specs.Masks.{has};
-ghost use Rattle.field.specs.Definitions.{scalar, element, generator, raise};
+ghost use Rattle.field.specs.Definitions.{identity, generator, sameElement, raise};
 ghost use Rattle.interpolation.specs.Rows.{productOf};
 ghost use Rattle.protocol.specs.Transcript.{coefficient};
 ghost use Rattle.protocol.specs.Arrays.{commitmentIn, challengeIn, elements, scalars, combinedValue, raised, powersAt, memberPoints, memberNumbers};
@@ -35,11 +34,11 @@ pub fn coefficient(i: u8, u: u8) -> Scalar
 
 // Whether a share for j is valid under committed values: the weights are those of the committed points at j.
 pub fn share_fits(weights: Row, values: [Element; 64], share: Scalar) -> bool
-    ensures { λ r. ⌜ r ≡ eqb (raise generator share .0) (productOf weights values .0) ⌝ }
+    ensures { λ r. ⌜ r ≡ sameElement (raise generator share) (productOf weights values) ⌝ }
 {
     let image = weights.product(values);
     let sent = Element::GENERATOR.pow(share);
-    sent.0 == image.0
+    sent.same(image)
 }
 
 // The committed values of n dealers, each to the power of its dealer's number: from V^(i^(u-1)) to V^(i^u).
@@ -50,7 +49,7 @@ pub fn raised(list: [Element; 1024], n: u8) -> [Element; 1024]
     let mut next = list;
     for at in 0..count {
         let i = (at / 32 + 1) as u32;
-        next[at] = list[at].pow(Scalar(i));
+        next[at] = list[at].power(i);
     }
     next
 }
@@ -72,13 +71,13 @@ pub fn combined_values(powers: [Element; 1024], qual: u64, n: u8, quorum: u8) ->
     ensures { λ r. ⌜ r ≡ elements quorum (combinedValue n (has qual) (commitmentIn powers) 1) ⌝ }
 {
     let m = capped(quorum as usize);
-    let mut values = [Element(0); 64];
+    let mut values = [Element::ONE; 64];
     for v in 0..m {
         let mut product = Element::ONE;
         for i in 0..n {
             if sets::has(qual, i + 1) {
                 let at = i as usize * 32 + v;
-                let value = if at < 1024 { powers[at] } else { Element(0) };
+                let value = if at < 1024 { powers[at] } else { Element::ONE };
                 product = product.mul(value);
             }
         }
@@ -89,14 +88,14 @@ pub fn combined_values(powers: [Element; 1024], qual: u64, n: u8, quorum: u8) ->
 
 // S at the points 1-a to 0, and S_1 to S_t.
 pub fn key_values(key: [Element; 32], t: u8, a: u8) -> [Element; 64]
-    ensures { λ r. ⌜ r ≡ elements (t + a) (λ v. getD key (v + 1 - a) (element 0)) ⌝ }
+    ensures { λ r. ⌜ r ≡ elements (t + a) (λ v. getD key (v + 1 - a) identity) ⌝ }
 {
     let packed = a as usize;
     let m = capped(t as usize + packed);
-    let mut values = [Element(0); 64];
+    let mut values = [Element::ONE; 64];
     for v in 0..m {
         let j = if v < packed { 0 } else { v + 1 - packed };
-        values[v] = if j < 32 { key[j] } else { Element(0) };
+        values[v] = if j < 32 { key[j] } else { Element::ONE };
     }
     values
 }

@@ -40,6 +40,7 @@ loop-less : tie.Need-loop-less Inv-loop μ-loop
 loop-less c = search needs
 
 loop-again : tie.Need-loop-again Inv-loop μ-loop
+unfolding committedPoint
 loop-again c =
     let a = c .before .before .before .before .args in
     let l = c .before .before .loop in (

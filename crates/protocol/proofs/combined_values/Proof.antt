@@ -6,10 +6,10 @@ use mathlib.Core.Logic.{⊎-elim}
 use mathlib.Core.Path.{_≡_, sym, ap, ap₂, _∙_}
 use Prim.Native.Nat.{ℕ, _+_, _-_, _*_, _≤_, min}
 use lib.ListN.{length, getD, List·getD-eq-default}
-use Rattle.lists.specs.Stores.{stored-none}
+use Rattle.lists.specs.Stores.{stored-none, getD-default}
 use Rattle.sets.specs.Masks.{has}
 use Rattle.field.specs.declared.Element.{Element}
-use Rattle.field.specs.Definitions.{element, product}
+use Rattle.field.specs.Definitions.{identity, product}
 use Rattle.protocol.specs.Arrays.{base, commitmentIn, elements, combinedValue}
 use Rattle.protocol.proofs.Loops.{front, front-next, front-capped, combined-none, combined-skip, combined-take}
 use Rattle.protocol.proofs.combined_values.Statement.{statement}
@@ -23,7 +23,7 @@ abbrev μ-loop2 : tie.MeasureT-loop2
 
 abbrev Inv-loop : tie.InvT-loop
 Inv-loop qual n quorum powers m values₀ v₀ values v =
-    (v ≤ m) × (m ≡ min quorum 64) × (values ≡ front (element 0) v (combinedValue n (has qual) (commitmentIn powers) 1))
+    (v ≤ m) × (m ≡ min quorum 64) × (values ≡ front identity v (combinedValue n (has qual) (commitmentIn powers) 1))
 
 abbrev μ-loop : tie.MeasureT-loop
 μ-loop qual n quorum powers m values₀ v₀ values v = m - v
@@ -32,7 +32,7 @@ capped-requires : tie.Need-capped-requires Inv-loop2 μ-loop2 Inv-loop μ-loop
 capped-requires c κs = search needs
 
 loop-holds : tie.Need-loop-holds Inv-loop2 μ-loop2 Inv-loop μ-loop
-loop-holds c = (omega arith, c .capped .ensures, stored-none 64 (element 0) _)
+loop-holds c = (omega arith, c .capped .ensures, stored-none 64 identity _)
 
 loop2-holds : tie.Need-loop2-holds Inv-loop2 μ-loop2 Inv-loop μ-loop
 loop2-holds c = (omega arith, combined-none _ _ _)
@@ -81,8 +81,8 @@ value c =
     let full : length powers ≡ 1024 = s .good .0 .1 .0 .1 in
     let place : i .loop2 .i * 32 + l .loop .v ≡ base (i .loop2 .i + 1) + l .loop .v = omega arith in
     ⊎-elim
-    (λ w. w .2 ∙ ap (λ (k : ℕ). getD powers k (element 0)) place)
-    (λ w. w .1 ∙ sym (List·getD-eq-default powers (element 0) (omega arith)))
+    (λ w. w .2 ∙ getD-default powers _ _ identity (omega (arith, w .0 .taken)) ∙ ap (λ (k : ℕ). getD powers k identity) place)
+    (λ w. w .1 ∙ sym (List·getD-eq-default powers identity (omega arith)))
     (c .if2 .came)
 
 loop2-again : tie.Need-loop2-again Inv-loop2 μ-loop2 Inv-loop μ-loop
@@ -121,7 +121,7 @@ loop-again c =
     let f : ℕ → Element = combinedValue (a .n) (has (a .qual)) (commitmentIn (a .t1)) 1 in
     let end : i .loop2 .i ≡ a .n = omega arith in
     let done = i .loop2 .inv .1 ∙ ap (λ (k : ℕ). combinedValue k (has (a .qual)) (commitmentIn (a .t1)) 1 (l .loop .v)) end in
-    (omega arith, l .loop .inv .1, front-next (element 0) f (l .loop .v) (l .loop .inv .2) done)
+    (omega arith, l .loop .inv .1, front-next identity f (l .loop .v) (l .loop .inv .2) done)
 
 returns : tie.Need-returns Inv-loop2 μ-loop2 Inv-loop μ-loop
 unfolding elements
@@ -129,7 +129,7 @@ returns c =
     let a = c .before .before .before .args in
     let l = c .before .loop in
     let f : ℕ → Element = combinedValue (a .n) (has (a .qual)) (commitmentIn (a .t1)) 1 in
-    l .inv .2 ∙ front-capped (element 0) f (a .quorum) (omega arith)
+    l .inv .2 ∙ front-capped identity f (a .quorum) (omega arith)
 
 pub combined-values-spec : {M : Type 1} → statement M
 combined-values-spec =

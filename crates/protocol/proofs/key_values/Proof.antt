@@ -5,16 +5,16 @@ use mathlib.Core.Logic.{⊎-elim}
 use mathlib.Core.Path.{_≡_, sym, ap, _∙_}
 use Prim.Native.Nat.{ℕ, _+_, _-_, _≤_, min}
 use lib.ListN.{length, getD, List·getD-eq-default}
-use Rattle.lists.specs.Stores.{stored-none}
+use Rattle.lists.specs.Stores.{stored-none, getD-default}
 use Rattle.field.specs.declared.Element.{Element}
-use Rattle.field.specs.Definitions.{element}
+use Rattle.field.specs.Definitions.{identity}
 use Rattle.protocol.specs.Arrays.{elements}
 use Rattle.protocol.proofs.Loops.{front, front-next, front-capped}
 use Rattle.protocol.proofs.key_values.Statement.{statement}
 use Rattle.protocol.proofs.key_values.Tie as tie
 
 abbrev Inv-loop : tie.InvT-loop
-Inv-loop t a key packed m values₀ v₀ values v = (v ≤ m) × (m ≡ min (t + a) 64) × (values ≡ front (element 0) v (λ k. getD key (k + 1 - a) (element 0)))
+Inv-loop t a key packed m values₀ v₀ values v = (v ≤ m) × (m ≡ min (t + a) 64) × (values ≡ front identity v (λ k. getD key (k + 1 - a) identity))
 
 abbrev μ-loop : tie.MeasureT-loop
 μ-loop t a key packed m values₀ v₀ values v = m - v
@@ -32,7 +32,7 @@ capped-requires : tie.Need-capped-requires Inv-loop μ-loop
 capped-requires c κs = search needs
 
 loop-holds : tie.Need-loop-holds Inv-loop μ-loop
-loop-holds c = (omega arith, c .capped .ensures, stored-none 64 (element 0) _)
+loop-holds c = (omega arith, c .capped .ensures, stored-none 64 identity _)
 
 add-j : tie.Need-add-j Inv-loop μ-loop
 add-j c = search needs
@@ -64,22 +64,22 @@ loop-again c =
     let l = c .before .before .before .loop in
     let key = s .args .t1 in
     let full : length key ≡ 32 = s .good .0 .1 .0 .1 in
-    let f : ℕ → Element = λ k. getD key (k + 1 - s .args .a) (element 0) in
+    let f : ℕ → Element = λ k. getD key (k + 1 - s .args .a) identity in
     let place : c .before .if1 .j ≡ l .v + 1 - s .args .a = ⊎-elim (λ w. omega arith) (λ w. omega arith) (c .before .if1 .came) in
     let value : c .if2 .values ≡ f (l .v) =
     ⊎-elim
-    (λ w. w .3 ∙ ap (λ (k : ℕ). getD key k (element 0)) place)
-    (λ w. w .1 ∙ sym (List·getD-eq-default key (element 0) (omega arith)))
+    (λ w. w .3 ∙ getD-default key _ _ identity (omega (arith, w .0 .taken)) ∙ ap (λ (k : ℕ). getD key k identity) place)
+    (λ w. w .1 ∙ sym (List·getD-eq-default key identity (omega arith)))
     (c .if2 .came) in
-    (omega arith, l .inv .1, front-next (element 0) f (l .v) (l .inv .2) value)
+    (omega arith, l .inv .1, front-next identity f (l .v) (l .inv .2) value)
 
 returns : tie.Need-returns Inv-loop μ-loop
 unfolding elements
 returns c =
     let s = c .before .before .before in
     let l = c .before .loop in
-    let f : ℕ → Element = λ k. getD (s .args .t1) (k + 1 - s .args .a) (element 0) in
-    l .inv .2 ∙ front-capped (element 0) f (s .args .t + s .args .a) (omega arith)
+    let f : ℕ → Element = λ k. getD (s .args .t1) (k + 1 - s .args .a) identity in
+    l .inv .2 ∙ front-capped identity f (s .args .t + s .args .a) (omega arith)
 
 pub key-values-spec : {M : Type 1} → statement M
 key-values-spec =

@@ -12,6 +12,7 @@ use Rattle.field.specs.declared.Scalar.{Scalar}
 use Rattle.field.specs.Definitions.{scalar}
 use Rattle.interpolation.specs.declared.Row.{Row}
 use Rattle.interpolation.specs.Definitions.{party}
+use Rattle.interpolation.specs.Laws.{party-is}
 use Rattle.interpolation.specs.Rows.{listed-is}
 use Rattle.protocol.specs.Arrays.{memberPoints}
 use Rattle.protocol.proofs.Loops.{chosen, Passed, passed-none, passed-skip, passed-take}
@@ -71,7 +72,7 @@ loop-again c =
     let f = has (s .args .set) in (
       omega arith,
       ⊎-elim
-          (λ w. passed-take (scalar 0) party f (l .i) (l .inv .1) (sym (c .before .has .ensures) ∙ w .0 .taken) (w .1 .ensures) (w .3) (w .2))
+          (λ w. passed-take (scalar 0) party f (l .i) (l .inv .1) (sym (c .before .has .ensures) ∙ w .0 .taken) (w .1 .ensures ∙ sym (party-is _)) (w .3) (w .2))
           (λ w. passed-skip (scalar 0) party f (l .i) (l .inv .1) (sym (c .before .has .ensures) ∙ w .0 .left) (w .2) (w .1))
           (c .if1 .came),
     )

@@ -6,16 +6,16 @@ use mathlib.Core.Path.{_≡_, refl, sym, ap, ap₂, _∙_}
 use mathlib.Core.List.{List}
 use Prim.Native.Nat.{ℕ, _+_, _*_, _-_, _/_, _≤_, min}
 use lib.ListN.{length, getD, set}
-use Rattle.lists.specs.Stores.{stored, stored-first, stored-capped}
+use Rattle.lists.specs.Stores.{stored, getD-default, stored-first, stored-capped}
 use Rattle.field.specs.declared.Element.{Element}
-use Rattle.field.specs.Definitions.{element, powered}
+use Rattle.field.specs.Definitions.{identity, powered}
 use Rattle.protocol.specs.Arrays.{raised}
 use Rattle.protocol.proofs.raised.Statement.{statement}
 use Rattle.protocol.proofs.raised.Tie as tie
 
 -- the power at a place
 abbrev power-at : List Element → ℕ → Element
-power-at list at = powered (getD list at (element 0)) (at / 32 + 1)
+power-at list at = powered (getD list at identity) (at / 32 + 1)
 
 abbrev Inv-loop : tie.InvT-loop
 Inv-loop n list count next₀ at₀ next at = (at ≤ count) × (count ≡ min (n * 32) 1024) × (length list ≡ 1024) × (next ≡ stored list 0 at (power-at list))
@@ -36,14 +36,14 @@ add-i c = search needs
 cast-i : tie.Need-cast-i Inv-loop μ-loop
 cast-i c = search needs
 
-mul-pow : tie.Need-mul-pow Inv-loop μ-loop
-mul-pow c = search needs
+mul-power : tie.Need-mul-power Inv-loop μ-loop
+mul-power c = search needs
 
-array-copy-out-pow : tie.Need-array-copy-out-pow Inv-loop μ-loop
-array-copy-out-pow c = search needs
+array-copy-out-power : tie.Need-array-copy-out-power Inv-loop μ-loop
+array-copy-out-power c = search needs
 
-pow-requires : tie.Need-pow-requires Inv-loop μ-loop
-pow-requires c κs = search needs
+power-requires : tie.Need-power-requires Inv-loop μ-loop
+power-requires c κs = search needs
 
 mul-next : tie.Need-mul-next Inv-loop μ-loop
 mul-next c = search needs
@@ -64,7 +64,7 @@ loop-again c =
       omega arith,
       l .inv .1,
       l .inv .2,
-      ap₂ (λ (r : List Element) (x : Element). set r (l .at) x) (l .inv .3) (c .pow .ensures) ∙ sym (stored-first list (l .at) (power-at list)),
+      ap₂ (λ (r : List Element) (x : Element). set r (l .at) x) (l .inv .3) (c .power .ensures ∙ ap (λ (v : Element). powered v (l .at / 32 + 1)) (getD-default list (l .at) _ identity (omega arith))) ∙ sym (stored-first list (l .at) (power-at list)),
     )
 
 returns : tie.Need-returns Inv-loop μ-loop
@@ -85,9 +85,9 @@ raised-spec =
     loop-holds
     add-i
     cast-i
-    mul-pow
-    array-copy-out-pow
-    pow-requires
+    mul-power
+    array-copy-out-power
+    power-requires
     mul-next
     array-set-from-next
     add-at

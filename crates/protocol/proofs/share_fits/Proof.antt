@@ -1,7 +1,6 @@
 -- `share_fits` meets its contract. Assumes nothing.
-use mathlib.Core.Path.{ap₂}
-use lib.Dec.{eqb}
-use Rattle.field.specs.declared.Element.{Element}
+use mathlib.Core.Path.{ap₂, _∙_}
+use Rattle.field.specs.Definitions.{sameElement}
 use borrow.Author.Needs.{needs}
 use Rattle.protocol.proofs.share_fits.Statement.{statement}
 use Rattle.protocol.proofs.share_fits.Tie as tie
@@ -12,8 +11,11 @@ product-requires c κs = search needs
 pow-requires : tie.Need-pow-requires
 pow-requires c κs = search needs
 
+same-requires : tie.Need-same-requires
+same-requires c κs = search needs
+
 returns : tie.Need-returns
-returns c = ap₂ (λ (v w : Element). eqb (v .0) (w .0)) (c .before .before .pow .ensures) (c .before .before .before .product .ensures)
+returns c = c .same .ensures ∙ ap₂ sameElement (c .before .pow .ensures) (c .before .before .product .ensures)
 
 pub share-fits-spec : {M : Type 1} → statement M
-share-fits-spec = tie.close (tie.spec product-requires pow-requires returns)
+share-fits-spec = tie.close (tie.spec product-requires pow-requires same-requires returns)

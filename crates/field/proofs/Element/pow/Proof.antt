@@ -1,16 +1,15 @@
 -- `Element::pow` meets its contract. Assumes nothing.
-use mathlib.Core.Path.{ap}
-use Rattle.field.specs.Definitions.{P, element, raise}
+use Rattle.field.specs.Definitions.{raise}
 use borrow.Author.Needs.{needs}
 use Rattle.field.proofs.Element.pow.Statement.{statement}
 use Rattle.field.proofs.Element.pow.Tie as tie
 
-power-of-requires : tie.Need-power-of-requires
-power-of-requires c κs = search needs
+power-requires : tie.Need-power-requires
+power-requires c κs = search needs
 
 returns : tie.Need-returns
-unfolding raise P
-returns c = ap element (c .power-of .ensures)
+unfolding raise
+returns c = c .power .ensures
 
 pub pow-spec : {M : Type 1} → statement M
-pow-spec = tie.close (tie.spec power-of-requires returns)
+pow-spec = tie.close (tie.spec power-requires returns)

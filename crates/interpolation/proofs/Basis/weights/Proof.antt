@@ -35,6 +35,7 @@ partial-products-requires-2 : tie.Need-partial-products-requires-2 Inv-loop μ-l
 partial-products-requires-2 c κs = search needs
 
 loop-holds : tie.Need-loop-holds Inv-loop μ-loop
+unfolding size
 loop-holds c = (omega arith, omega (arith, c .before .before .before .len .ensures), front-none _)
 
 sub-k : tie.Need-sub-k Inv-loop μ-loop
@@ -105,7 +106,7 @@ loop-again c =
     )
 
 returns : tie.Need-returns Inv-loop μ-loop
-unfolding weightsBy
+unfolding weightsBy size
 returns c =
     let suffix = c .before .before .partial-products2 in
     let back = c .before .before .before .reversed in

@@ -31,6 +31,7 @@ mul-scales : tie.Need-mul-scales Inv-loop μ-loop
 mul-scales c = search needs
 
 array-set-from-scales : tie.Need-array-set-from-scales Inv-loop μ-loop
+unfolding size
 array-set-from-scales c = search needs
 
 add-i : tie.Need-add-i Inv-loop μ-loop
@@ -49,7 +50,7 @@ loop-again c =
     )
 
 returns : tie.Need-returns Inv-loop μ-loop
-unfolding basisOf
+unfolding basisOf size
 returns c =
     let r = c .before .before .before .args .self in
     let l = c .before .loop in

@@ -21,6 +21,7 @@ len-requires : tie.Need-len-requires Inv-loop μ-loop
 len-requires c κs = search needs
 
 loop-holds : tie.Need-loop-holds Inv-loop μ-loop
+unfolding size partialProduct
 loop-holds c = (omega arith, c .len .ensures, front-none _, sym (fold-zero times (scalar 1) _))
 
 cast-products : tie.Need-cast-products Inv-loop μ-loop
@@ -30,6 +31,7 @@ mul-products : tie.Need-mul-products Inv-loop μ-loop
 mul-products c = search needs
 
 array-set-from-products : tie.Need-array-set-from-products Inv-loop μ-loop
+unfolding size
 array-set-from-products c = search needs
 
 cast-other : tie.Need-cast-other Inv-loop μ-loop
@@ -39,6 +41,7 @@ mul-other : tie.Need-mul-other Inv-loop μ-loop
 mul-other c = search needs
 
 element-copy-out-other : tie.Need-element-copy-out-other Inv-loop μ-loop
+unfolding size
 element-copy-out-other c = search needs
 
 sub-requires : tie.Need-sub-requires Inv-loop μ-loop
@@ -54,7 +57,7 @@ loop-less : tie.Need-loop-less Inv-loop μ-loop
 loop-less c = search needs
 
 loop-again : tie.Need-loop-again Inv-loop μ-loop
-unfolding nth
+unfolding nth size partialProduct
 loop-again c =
     let a = c .before .before .before .before .before .before .args in
     let l = c .before .before .before .before .loop in (
@@ -65,7 +68,7 @@ loop-again c =
     )
 
 returns : tie.Need-returns Inv-loop μ-loop
-unfolding partialProducts
+unfolding partialProducts size partialProduct
 returns c =
     let a = c .before .before .before .args in
     let l = c .before .loop in

@@ -34,6 +34,7 @@ mul-at : tie.Need-mul-at Inv-loop μ-loop
 mul-at c = search needs
 
 element-copy-out-at : tie.Need-element-copy-out-at Inv-loop μ-loop
+unfolding size
 element-copy-out-at c = search needs
 
 cast-at-2 : tie.Need-cast-at-2 Inv-loop μ-loop
@@ -43,6 +44,7 @@ mul-at-2 : tie.Need-mul-at-2 Inv-loop μ-loop
 mul-at-2 c = search needs
 
 array-set-from-at : tie.Need-array-set-from-at Inv-loop μ-loop
+unfolding size
 array-set-from-at c = search needs
 
 add-i : tie.Need-add-i Inv-loop μ-loop
@@ -62,7 +64,7 @@ loop-again c =
     )
 
 returns : tie.Need-returns Inv-loop μ-loop
-unfolding reversed
+unfolding reversed size
 returns c =
     let r = c .before .before .before .args .t1 in
     let l = c .before .loop in

@@ -32,6 +32,7 @@ mul-other : tie.Need-mul-other Inv-loop μ-loop
 mul-other c = search needs
 
 element-copy-out-other : tie.Need-element-copy-out-other Inv-loop μ-loop
+unfolding size
 element-copy-out-other c = search needs
 
 sub-requires : tie.Need-sub-requires Inv-loop μ-loop

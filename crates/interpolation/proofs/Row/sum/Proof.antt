@@ -29,6 +29,7 @@ mul-w : tie.Need-mul-w Inv-loop μ-loop
 mul-w c = search needs
 
 element-copy-out-w : tie.Need-element-copy-out-w Inv-loop μ-loop
+unfolding size
 element-copy-out-w c = search needs
 
 cast-v : tie.Need-cast-v Inv-loop μ-loop
@@ -38,6 +39,7 @@ mul-v : tie.Need-mul-v Inv-loop μ-loop
 mul-v c = search needs
 
 array-copy-out-v : tie.Need-array-copy-out-v Inv-loop μ-loop
+unfolding size
 array-copy-out-v c = search needs
 
 mul-requires : tie.Need-mul-requires Inv-loop μ-loop
