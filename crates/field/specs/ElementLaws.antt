@@ -18,6 +18,8 @@ use Rattle.field.specs.Order as O
 use Rattle.field.specs.Trial.{trial, prime-by-trial}
 use Rattle.field.specs.ScalarLaws.{range, inverses, power-whole}
 
+-- ---- the modulus
+
 1<P : 1 < P
 unfolding P
 1<P = lit< tt
@@ -35,7 +37,7 @@ pub prime-P : (x : ℕ) → 1 < x → x < P → 0 < P % x
 unfolding P trial
 prime-P = prime-by-trial P 31621 (lit< tt) tt
 
--- and 2 q + 1, so that the elements, numbers of order q, are a group of prime order
+-- it is 2 q + 1
 pub P-is : P ≡ 2 * q + 1
 unfolding P q
 P-is = refl
