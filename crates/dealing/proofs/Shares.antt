@@ -4,12 +4,11 @@ use mathlib.Core.Bool.{Bool, true, not}
 use mathlib.Core.List.{List}
 use Prim.Native.Nat.{ℕ, _+_, _-_, _<_}
 use native.Mathlib.Omega.{arith}
-use lib.Dec.{eqb}
 use Rattle.lists.specs.Tests.{pick}
 use Rattle.sets.specs.Masks.{maskOf, insert}
 use Rattle.sets.specs.MaskLaws.{maskOf-insert, maskOf-cong}
 use Rattle.field.specs.declared.Element.{Element}
-use Rattle.field.specs.Definitions.{scalar, element, generator, raise}
+use Rattle.field.specs.Definitions.{scalar, element, generator, raise, sameElement}
 use Rattle.interpolation.specs.declared.Row.{Row}
 use Rattle.interpolation.specs.declared.Basis.{Basis}
 use Rattle.interpolation.specs.Definitions.{party, committedPoint}
@@ -27,13 +26,13 @@ use Rattle.dealing.specs.Definitions.{wrongShares}
 
 -- the share for j does not fit, as the code tests it
 unfoldable pub unfit : Basis → List Element → List ℕ → ℕ → ℕ → Bool
-unfit basis values s from j = not (eqb (raise generator (scalar (word s from (j - 1))) .0) (productOf (weightsBy basis (party j)) values .0))
+unfit basis values s from j = not (sameElement (raise generator (scalar (word s from (j - 1)))) (productOf (weightsBy basis (party j)) values))
 
 -- one share more: tested with the weights at its holder
 pub share-next : (basis : Basis) (values : List Element) (s : List ℕ) (from i : ℕ) {x : ℕ} {weights : Row} {fits : Bool}
     → x ≡ word s from i
     → weights ≡ weightsBy basis (party (i + 1))
-    → fits ≡ eqb (raise generator (scalar x) .0) (productOf weights values .0)
+    → fits ≡ sameElement (raise generator (scalar x)) (productOf weights values)
     → i < 64
     → maskOf (i + 1) (unfit basis values s from) ≡ pick (not fits) (insert (maskOf i (unfit basis values s from)) (i + 1)) (maskOf i (unfit basis values s from))
 unfolding unfit
@@ -49,7 +48,7 @@ pub wrong-shares : (setup : Setup) (s : List ℕ)
 unfolding wrongShares unfit validShare dealingAt
 wrong-shares setup s h =
     maskOf-cong (setup .n) _ _ (λ j p l.
-    ap (λ (e : Element). not (eqb (raise generator (scalar (word s (sharesFrom (setup .t) (setup .a)) (j - 1))) .0) (e .0)))
+    ap (λ (e : Element). not (sameElement (raise generator (scalar (word s (sharesFrom (setup .t) (setup .a)) (j - 1)))) e))
     (ap (λ (w : Row). productOf w (elements (quorum (setup .t) (setup .a)) (λ v. element (word s 4 v)))) (weights-by (listed (quorum (setup .t) (setup .a)) (committedPoint (setup .a))) (party j))
     ∙ values-interpolated (quorum (setup .t) (setup .a)) (setup .a) (λ v. element (word s 4 v)) (party j)
     (omega (arith, quorum-max (bounds-of (setup .n) (setup .t) (setup .a) h)))))

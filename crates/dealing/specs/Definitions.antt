@@ -6,10 +6,8 @@ use lib.ListN.{getD, set}
 use Rattle.lists.specs.Tests.{require, orNext}
 use Rattle.lists.specs.Stores.{stored, filled}
 use Rattle.sets.specs.Masks.{has, insert, maskOf}
-use Rattle.field.specs.declared.Scalar.{Scalar}
 use Rattle.field.specs.declared.Element.{Element}
-use Rattle.field.specs.Definitions.{scalar, element}
-use Rattle.interpolation.specs.Definitions.{committedPoint, elementAt}
+use Rattle.field.specs.Definitions.{scalar, element, identity}
 use Rattle.records.specs.Parameters.{quorum}
 use Rattle.records.specs.Bytes.{byteAt, word, sender}
 use Rattle.records.specs.Refusals.{sharesFrom, dealingRefusal}
@@ -21,7 +19,7 @@ use Rattle.dealing.specs.declared.Dealings.{Dealings}
 -- ---- the setup
 
 unfoldable pub noSetup : Setup
-noSetup = record { n = 0; t = 0; a = 0; key = filled 32 (element 0) }
+noSetup = record { n = 0; t = 0; a = 0; key = filled 32 identity }
 
 -- the setup of an accepted SU
 unfoldable pub setupOf : List ℕ → Setup
@@ -33,14 +31,14 @@ setupOf s =
       key = stored (noSetup .key) 0 (byteAt s 3 + 1) (λ j. element (word s 6 j));
     }
 
--- S_x of a setup
-unfoldable pub keyOf : Setup → Scalar → Element
-keyOf setup x = elementAt (committedPoint (setup .a)) (setup .t + setup .a) (λ v. getD (setup .key) (v + 1 - setup .a) (element 0)) x
+-- S, S_1 to S_t by their number
+unfoldable pub keyIn : Setup → ℕ → Element
+keyIn setup j = getD (setup .key) j identity
 
 -- ---- the dealings
 
 unfoldable pub noDealings : Dealings
-noDealings = record { count = 0; dealers = 0; commitments = filled 1024 (element 0); wrong = filled 32 0 }
+noDealings = record { count = 0; dealers = 0; commitments = filled 1024 identity; wrong = filled 32 0 }
 
 -- the refusal of a DE at stage 1: 12, after those from the input
 unfoldable pub dealingNumber : Setup → Dealings → List ℕ → ℕ

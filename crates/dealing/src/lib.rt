@@ -3,11 +3,12 @@ ghost use mathlib.Core.Path.{_≡_};
 ghost use mathlib.Core.Bool.{true};
 ghost use Prim.Native.Nat.{_+_, _≤_};
 ghost use Rattle.lists.specs.Stores.{stored, filled};
-ghost use Rattle.field.specs.Definitions.{element};
+ghost use Rattle.field.specs.Definitions.{element, identity};
 ghost use Rattle.records.specs.Parameters.{inBounds};
 ghost use Rattle.records.specs.Bytes.{word, sender};
+ghost use Rattle.protocol.specs.Transcript.{keyAt};
 ghost use Rattle.protocol.specs.Arrays.{elements};
-ghost use Rattle.dealing.specs.Definitions.{setupOf, keyOf, dealingNumber, wrongShares, withDealing, mayBlame};
+ghost use Rattle.dealing.specs.Definitions.{setupOf, keyIn, dealingNumber, wrongShares, withDealing, mayBlame};
 use field::Element;
 use field::Scalar;
 
@@ -29,9 +30,9 @@ pub struct Dealings {
 
 // S and S_1 on from a setup.
 fn load_key(bytes: &[u8], count: u16) -> [Element; 32]
-    ensures { λ r. ⌜ r ≡ stored (filled 32 (element 0)) 0 count (λ j. element (word (now (bytes .entry)) 6 j)) ⌝ }
+    ensures { λ r. ⌜ r ≡ stored (filled 32 identity) 0 count (λ j. element (word (now (bytes .entry)) 6 j)) ⌝ }
 {
-    let mut list = [Element(0); 32];
+    let mut list = [Element::ONE; 32];
     for j in 0..count {
         if j < 32 {
             list[j as usize] = Element(records::word(bytes, 6, j));
@@ -58,7 +59,7 @@ fn load_commitments(list: [Element; 1024], base: u16, bytes: &[u8], count: u16) 
 fn load_values(bytes: &[u8], count: u16) -> [Element; 64]
     ensures { λ r. ⌜ r ≡ elements count (λ v. element (word (now (bytes .entry)) 4 v)) ⌝ }
 {
-    let mut list = [Element(0); 64];
+    let mut list = [Element::ONE; 64];
     for v in 0..count {
         if v < 64 {
             list[v as usize] = Element(records::word(bytes, 4, v));
@@ -106,7 +107,7 @@ impl Setup {
     // S at the point x, and S_j at a holder's.
     pub fn key_at(self, x: Scalar) -> Element
         requires { ⌜ inBounds (self .n) (self .t) (self .a) ≡ true ⌝ }
-        ensures { λ r. ⌜ r ≡ keyOf self x ⌝ }
+        ensures { λ r. ⌜ r ≡ keyAt (self .t) (self .a) (keyIn self) x ⌝ }
     {
         let key = self.key;
         let values = protocol::key_values(key, self.t, self.a);

@@ -1,17 +1,15 @@
 -- The response rows: what a number is tested against, and what the accepted numbers interpolate to. Assumes nothing.
 use mathlib.Core.Path.{_≡_, refl, sym, ap, ap₂, _∙_}
-use mathlib.Core.Bool.{Bool, true}
+use mathlib.Core.Bool.{Bool}
 use mathlib.Core.List.{List}
 use Prim.Native.Nat.{ℕ, _+_, _-_, _^_, _≤_, _<_}
 use native.Mathlib.Omega.{arith}
-use lib.Dec.{eqb}
-use Rattle.algebra.specs.Fold.{fold-cong}
-use Rattle.lists.specs.Tests.{pick, allTo, all-cong}
+use Rattle.lists.specs.Tests.{allTo, all-cong}
 use Rattle.sets.specs.Masks.{has}
 use Rattle.sets.specs.MaskLaws.{has-minus}
 use Rattle.field.specs.declared.Scalar.{Scalar}
 use Rattle.field.specs.declared.Element.{Element}
-use Rattle.field.specs.Definitions.{scalar, element, generator, product, raise, powered}
+use Rattle.field.specs.Definitions.{scalar, generator, product, raise, sameElement}
 use Rattle.interpolation.specs.declared.Row.{Row}
 use Rattle.interpolation.specs.Definitions.{party, slot, committedPoint}
 use Rattle.interpolation.specs.Rows.{listed, weightsOf, sumOf, productOf, elementAt-cong}
@@ -22,10 +20,10 @@ use Rattle.records.specs.Laws.{Bounds, quorum-max, key-max}
 use Rattle.protocol.specs.Transcript.{keyAt, combinedAt, challengeAt, responseAt, passes}
 use Rattle.protocol.specs.Arrays.{commitmentIn, challengeIn, elements, scalars, combinedValue, memberPoints, memberNumbers}
 use Rattle.protocol.specs.ArrayLaws.{values-interpolated, challenges-interpolated, members-interpolated}
-use Rattle.protocol.specs.Combined.{combined-values}
+use Rattle.protocol.specs.Combined.{combined-values, combinedValue-same}
 use Rattle.dealing.specs.declared.Setup.{Setup}
 use Rattle.dealing.specs.declared.Dealings.{Dealings}
-use Rattle.dealing.specs.Definitions.{keyOf}
+use Rattle.dealing.specs.Definitions.{keyIn}
 use Rattle.complaint.specs.declared.Complaints.{Complaints}
 use Rattle.complaint.specs.Definitions.{blamedBy, unblamed}
 use Rattle.response.specs.declared.Responses.{Responses}
@@ -51,15 +49,7 @@ module _ (setup : Setup) (list : List Element) (challenges : List Scalar) (qual 
 
   -- number i of a record passes
   unfoldable pub fits : List ℕ → ℕ → Bool
-  fits s i = eqb (raise generator (scalar (word s 4 i)) .0) (wanted (i + 1) .0)
-
--- one test of the dealers for the other
-combined-same : (n : ℕ) (f g : ℕ → Bool) (commitment : ℕ → ℕ → Element) (u v : ℕ)
-    → ((i : ℕ) → f i ≡ g i)
-    → combinedValue n f commitment u v ≡ combinedValue n g commitment u v
-unfolding combinedValue
-combined-same n f g commitment u v h =
-    fold-cong product (element 1) n (λ i l. ap (λ (b : Bool). pick b (powered (commitment (i + 1) v) ((i + 1) ^ (u - 1))) (element 1)) (h (i + 1)))
+  fits s i = sameElement (raise generator (scalar (word s 4 i))) (wanted (i + 1))
 
 module _ (setup : Setup) (d : Dealings) (c : Complaints) (challenges : List Scalar) (bounds : Bounds (setup .n) (setup .t) (setup .a)) (x : Scalar) where
   -- C_u(x), from the committed values of the dealers that nobody blames, combined for u
@@ -71,7 +61,7 @@ module _ (setup : Setup) (d : Dealings) (c : Complaints) (challenges : List Scal
   combined-is u =
       values-interpolated (quorum (setup .t) (setup .a)) (setup .a) _ x (omega (arith, quorum-max bounds))
       ∙ elementAt-cong (committedPoint (setup .a)) (committedPoint (setup .a)) (quorum (setup .t) (setup .a)) _ _ x (λ v l. refl)
-      (λ v l. combined-same (setup .n) _ _ _ u v (λ i. has-minus (d .dealers) (blamedBy (setup .n) c) i))
+      (λ v l. combinedValue-same (setup .n) _ _ _ u v (λ i. has-minus (d .dealers) (blamedBy (setup .n) c) i))
       ∙ sym (combined-values (transcript setup d c challenges) u x)
 
   challenge-is : (u : ℕ)
@@ -81,21 +71,21 @@ module _ (setup : Setup) (d : Dealings) (c : Complaints) (challenges : List Scal
   challenge-is u = challenges-interpolated (setup .a) challenges u x (omega (arith, key-max bounds))
 
   wanted-is : (u : ℕ)
-      → wanted setup (d .commitments) challenges (unblamed (setup .n) c (d .dealers)) (quorum (setup .t) (setup .a)) (keyOf setup x)
+      → wanted setup (d .commitments) challenges (unblamed (setup .n) c (d .dealers)) (quorum (setup .t) (setup .a)) (keyAt (setup .t) (setup .a) (keyIn setup) x)
       (weightsOf (listed (setup .a) (λ v. slot (v + 1))) x) (weightsOf (listed (quorum (setup .t) (setup .a)) (committedPoint (setup .a))) x) u
       ≡ responseAt (transcript setup d c challenges) u x
-  unfolding wanted responseAt keyAt keyOf transcript
-  wanted-is u = ap₂ (λ (v : Element) (e : Scalar). product v (raise (keyOf setup x) e)) (combined-is u) (challenge-is u)
+  unfolding wanted responseAt transcript
+  wanted-is u = ap₂ (λ (v : Element) (e : Scalar). product v (raise (keyAt (setup .t) (setup .a) (keyIn setup) x) e)) (combined-is u) (challenge-is u)
 
 module _ (setup : Setup) (d : Dealings) (c : Complaints) (challenges : List Scalar) (bounds : Bounds (setup .n) (setup .t) (setup .a)) (s : List ℕ) where
   -- the numbers of a record fit where they pass for its sender
   row-is : (n : ℕ)
-      → allTo n (fits setup (d .commitments) challenges (unblamed (setup .n) c (d .dealers)) (quorum (setup .t) (setup .a)) (keyOf setup (party (sender s)))
+      → allTo n (fits setup (d .commitments) challenges (unblamed (setup .n) c (d .dealers)) (quorum (setup .t) (setup .a)) (keyAt (setup .t) (setup .a) (keyIn setup) (party (sender s)))
       (weightsOf (listed (setup .a) (λ v. slot (v + 1))) (party (sender s))) (weightsOf (listed (quorum (setup .t) (setup .a)) (committedPoint (setup .a))) (party (sender s))) s)
       ≡ allTo n (λ i. passes (transcript setup d c challenges) (i + 1) (sender s) (scalar (word s 4 i)))
   unfolding fits passes
   row-is n =
-      all-cong n _ _ (λ i l. ap (λ (v : Element). eqb (raise generator (scalar (word s 4 i)) .0) (v .0)) (wanted-is setup d c challenges bounds (party (sender s)) (i + 1)))
+      all-cong n _ _ (λ i l. ap (λ (v : Element). sameElement (raise generator (scalar (word s 4 i))) v) (wanted-is setup d c challenges bounds (party (sender s)) (i + 1)))
 
   -- the same with what the calls answer
   pub row-tested : {j qual need b : ℕ} {x : Scalar} {key : Element} {slotPoints slotWeights points weights : Row}
@@ -103,7 +93,7 @@ module _ (setup : Setup) (d : Dealings) (c : Complaints) (challenges : List Scal
       → x ≡ party j
       → qual ≡ unblamed (setup .n) c (d .dealers)
       → need ≡ quorum (setup .t) (setup .a)
-      → key ≡ keyOf setup x
+      → key ≡ keyAt (setup .t) (setup .a) (keyIn setup) x
       → slotPoints ≡ listed (setup .a) (λ v. slot (v + 1))
       → slotWeights ≡ weightsOf slotPoints x
       → points ≡ listed need (committedPoint (setup .a))

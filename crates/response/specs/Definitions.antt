@@ -7,7 +7,7 @@ use Rattle.lists.specs.Tests.{allTo, require, orNext}
 use Rattle.lists.specs.Stores.{stored, filled}
 use Rattle.sets.specs.Masks.{has, insert, members}
 use Rattle.field.specs.declared.Scalar.{Scalar}
-use Rattle.field.specs.Definitions.{scalar, element}
+use Rattle.field.specs.Definitions.{scalar}
 use Rattle.interpolation.specs.Definitions.{party, slot, scalarAt}
 use Rattle.records.specs.Parameters.{batch}
 use Rattle.records.specs.Bytes.{word, sender}
@@ -16,6 +16,7 @@ use Rattle.protocol.specs.Transcript.{Transcript, passes}
 use Rattle.protocol.specs.Arrays.{base, commitmentIn, challengeIn}
 use Rattle.dealing.specs.declared.Setup.{Setup}
 use Rattle.dealing.specs.declared.Dealings.{Dealings}
+use Rattle.dealing.specs.Definitions.{keyIn}
 use Rattle.complaint.specs.declared.Complaints.{Complaints}
 use Rattle.complaint.specs.Definitions.{blamedBy}
 use Rattle.response.specs.declared.Responses.{Responses}
@@ -28,7 +29,7 @@ transcript setup d c challenges =
       n = setup .n;
       t = setup .t;
       a = setup .a;
-      key = λ j. getD (setup .key) j (element 0);
+      key = keyIn setup;
       qual = λ i. has (d .dealers) i && not (has (blamedBy (setup .n) c) i);
       commitment = commitmentIn (d .commitments);
       challenge = challengeIn (setup .a) challenges;

@@ -84,7 +84,7 @@ fn row_passes(
         let challenge = at_slots.sum(protocol::challenge_values(challenges, setup.a, u + 1));
         let wanted = image.mul(key.pow(challenge));
         let sent = Element::GENERATOR.pow(Scalar(records::word(bytes, 4, u as u16)));
-        if sent.0 != wanted.0 {
+        if !sent.same(wanted) {
             passed = false;
             break 'row;
         }

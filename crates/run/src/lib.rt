@@ -105,7 +105,7 @@ impl Run {
             dealings: Dealings {
                 count: 0,
                 dealers: 0,
-                commitments: [Element(0); 1024],
+                commitments: [Element::ONE; 1024],
                 wrong: [0; 32],
             },
             complaints: Complaints {
@@ -133,7 +133,7 @@ impl Run {
                 n: 0,
                 t: 0,
                 a: 0,
-                key: [Element(0); 32],
+                key: [Element::ONE; 32],
             },
         )
     }

@@ -5,14 +5,14 @@ use mathlib.Core.Logic.{⊎-elim}
 use mathlib.Core.Path.{_≡_, refl, ap}
 use Prim.Native.Nat.{_-_, _≤_}
 use Rattle.lists.specs.Stores.{stored, filled, length-filled}
-use Rattle.field.specs.Definitions.{element}
+use Rattle.field.specs.Definitions.{element, identity}
 use Rattle.records.specs.Bytes.{word}
 use Rattle.lists.specs.Loads.{load-in, load-past, loaded}
 use Rattle.dealing.proofs.load_key.Statement.{statement}
 use Rattle.dealing.proofs.load_key.Tie as tie
 
 abbrev Inv-loop : tie.InvT-loop
-Inv-loop bytes count list₀ j₀ list j = (j ≤ count) × (list ≡ stored (filled 32 (element 0)) 0 j (λ k. element (word bytes 6 k)))
+Inv-loop bytes count list₀ j₀ list j = (j ≤ count) × (list ≡ stored (filled 32 identity) 0 j (λ k. element (word bytes 6 k)))
 
 abbrev μ-loop : tie.MeasureT-loop
 μ-loop bytes count list₀ j₀ list j = count - j
@@ -45,7 +45,7 @@ loop-again c =
       omega arith,
       ⊎-elim
           (λ w. load-in _ 0 (l .j) _ (l .inv .1) (omega arith) (ap element (w .1 .ensures)) (w .2))
-          (λ w. load-past _ 0 (l .j) _ (l .inv .1) (omega (arith, length-filled 32 (element 0))) (w .1))
+          (λ w. load-past _ 0 (l .j) _ (l .inv .1) (omega (arith, length-filled 32 identity)) (w .1))
           (c .if1 .came),
     )
 

@@ -5,7 +5,7 @@ use mathlib.Core.Logic.{⊎-elim}
 use mathlib.Core.Path.{_≡_, refl, ap}
 use Prim.Native.Nat.{_-_, _≤_}
 use Rattle.lists.specs.Stores.{stored, filled, length-filled}
-use Rattle.field.specs.Definitions.{element}
+use Rattle.field.specs.Definitions.{element, identity}
 use Rattle.records.specs.Bytes.{word}
 use Rattle.protocol.specs.Arrays.{elements}
 use Rattle.lists.specs.Loads.{load-in, load-past, loaded}
@@ -13,7 +13,7 @@ use Rattle.dealing.proofs.load_values.Statement.{statement}
 use Rattle.dealing.proofs.load_values.Tie as tie
 
 abbrev Inv-loop : tie.InvT-loop
-Inv-loop bytes count list₀ v₀ list v = (v ≤ count) × (list ≡ stored (filled 64 (element 0)) 0 v (λ k. element (word bytes 4 k)))
+Inv-loop bytes count list₀ v₀ list v = (v ≤ count) × (list ≡ stored (filled 64 identity) 0 v (λ k. element (word bytes 4 k)))
 
 abbrev μ-loop : tie.MeasureT-loop
 μ-loop bytes count list₀ v₀ list v = count - v
@@ -46,7 +46,7 @@ loop-again c =
       omega arith,
       ⊎-elim
           (λ w. load-in _ 0 (l .v) _ (l .inv .1) (omega arith) (ap element (w .1 .ensures)) (w .2))
-          (λ w. load-past _ 0 (l .v) _ (l .inv .1) (omega (arith, length-filled 64 (element 0))) (w .1))
+          (λ w. load-past _ 0 (l .v) _ (l .inv .1) (omega (arith, length-filled 64 identity)) (w .1))
           (c .if1 .came),
     )
 

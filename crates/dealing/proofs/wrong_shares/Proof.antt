@@ -6,6 +6,7 @@ use mathlib.Core.Path.{_≡_, refl, ap, sym, _∙_}
 use Prim.Native.Nat.{ℕ, _+_, _-_, _≤_}
 use Rattle.sets.specs.Masks.{maskOf, insert}
 use Rattle.interpolation.specs.Rows.{weightsBy}
+use Rattle.interpolation.specs.Laws.{party-is}
 use Rattle.records.specs.Laws.{bounds-of, quorum-max}
 use Rattle.dealing.proofs.Shares.{unfit, share-next, wrong-shares}
 use Rattle.dealing.proofs.wrong_shares.Statement.{statement}
@@ -77,7 +78,7 @@ loop-again c =
     let s = weights .before .before .before .before in
     let next =
     share-next (s .before .basis .result) (s .before .before .before .load-values .result) (s .before .before .before .before .before .before .args .bytes .now) (s .shares-from .result) (l .i)
-    (c .before .before .word .ensures) (weights .weights .ensures ∙ ap (weightsBy (s .before .basis .result)) (weights .before .point .ensures)) (c .before .share-fits .ensures) (omega arith) in (
+    (c .before .before .word .ensures) (weights .weights .ensures ∙ ap (weightsBy (s .before .basis .result)) (weights .before .point .ensures ∙ sym (party-is (l .i + 1)))) (c .before .share-fits .ensures) (omega arith) in (
       omega arith,
       l .inv .1,
       ⊎-elim

@@ -1,15 +1,15 @@
 -- `row_passes` meets its contract. The inner loop keeps the product of value^weight over the committed points passed; the outer one has raised the
 -- powers to those of u and met no number that fails. Assumes nothing.
 use borrow.Author.Needs.{needs}
-use borrow.Author.Tests.{eq-eqb, ne-eqb}
+use borrow.Author.Tests.{not-true, not-false}
 use native.Mathlib.Omega.{arith}
 use mathlib.Core.Path.{_≡_, refl, sym, ap, ap₂, _∙_}
 use mathlib.Core.Bool.{Bool, true, false, and-false}
 use Prim.Native.Nat.{ℕ, _+_, _-_, _≤_}
-use lib.Dec.{eqb}
+use lib.ListN.{length}
 use Rattle.lists.specs.Tests.{allTo, all-next, fails-stays}
-use Rattle.field.specs.declared.Element.{Element}
-use Rattle.field.specs.Definitions.{scalar, generator, product, raise}
+use Rattle.field.specs.Definitions.{scalar, generator, product, raise, sameElement}
+use Rattle.interpolation.specs.Laws.{party-is}
 use Rattle.interpolation.specs.Rows.{sumOf, productOf}
 use Rattle.interpolation.specs.Turns.{first, product-none, product-next}
 use Rattle.records.specs.Parameters.{batch}
@@ -17,6 +17,7 @@ use Rattle.records.specs.Bytes.{word, sender}
 use Rattle.records.specs.Laws.{bounds-of, quorum-max, batch-max}
 use Rattle.protocol.specs.Transcript.{passes}
 use Rattle.protocol.specs.Arrays.{powersAt}
+use Rattle.protocol.specs.ArrayLaws.{elements-length}
 use Rattle.protocol.specs.Powers.{powers-none, powers-next, combined-powers}
 use Rattle.response.specs.Definitions.{transcript}
 use Rattle.response.proofs.Rows.{wanted, fits, all-weights, row-tested}
@@ -68,7 +69,7 @@ tested b =
     let at = key .before in
     let q = at .before .before in
     let a = start b .args in
-    row-tested (a .setup) (a .dealings) (a .complaints) (a .challenges) (bounds-of _ _ _ (start b .pre)) (a .bytes .now) (at .before .byte .ensures) (at .point .ensures) (q .before .unblamed .ensures)
+    row-tested (a .setup) (a .dealings) (a .complaints) (a .challenges) (bounds-of _ _ _ (start b .pre)) (a .bytes .now) (at .before .byte .ensures) (at .point .ensures ∙ sym (party-is _)) (q .before .unblamed .ensures)
     (q .quorum .ensures) (key .key-at .ensures) (w .before .slot-points .ensures) (w .weights .ensures) (points b .committed-points .ensures) (b .before .before .weights2 .ensures) (b .batch .ensures)
 
 -- the weights are as many as the committed points
@@ -76,19 +77,22 @@ all-points : (b : tie.After-batch Inv-loop μ-loop Inv-row μ-row) → points b 
     → first (points b .before .before .before .before .before .before .quorum .result) (b .before .before .weights2 .result) ≡ b .before .before .weights2 .result
 all-points b l = all-weights _ _ _ l (points b .committed-points .ensures) (b .before .before .weights2 .ensures)
 
+-- there are 64 combined values, of which the first are used
+sixty-four : (c : tie.After-combined-values Inv-loop μ-loop Inv-row μ-row) → length (c .combined-values .result) ≡ 64
+sixty-four c = ap length (c .combined-values .ensures) ∙ elements-length _ _
+
 -- ---- what is known where a number is compared
 
-abbrev turn : tie.After-struct-known2 Inv-loop μ-loop Inv-row μ-row → tie.In-row Inv-loop μ-loop Inv-row μ-row
-turn c = c .before .before .before .before .before .before .before .before .before .before .before
+abbrev turn : tie.After-same Inv-loop μ-loop Inv-row μ-row → tie.In-row Inv-loop μ-loop Inv-row μ-row
+turn c = c .before .before .before .before .before .before .before .before .before .before
 
 -- what the code compares
-compared : (c : tie.After-struct-known2 Inv-loop μ-loop Inv-row μ-row)
-    → let m = c .before .before .before .before in
-    let r = turn c .before in
-    eqb (c .before .before .pow3 .result .0) (m .mul2 .result .0) ≡ fits-of (r .before) (r .row .u)
+compared : (c : tie.After-same Inv-loop μ-loop Inv-row μ-row)
+    → let r = turn c .before in
+    c .same .result ≡ fits-of (r .before) (r .row .u)
 unfolding fits wanted
 compared c =
-    let m = c .before .before .before .before in
+    let m = c .before .before .before in
     let e = m .before .before .before in
     let l = e .before .before in
     let r = l .before .before .before in
@@ -96,13 +100,13 @@ compared c =
     let key = points b .before .before .before in
     let q = key .before .before .before in
     let end : l .loop .v ≡ q .quorum .result = omega arith in
-    let sent = c .before .before .pow3 .ensures ∙ ap (λ (x : ℕ). raise generator (scalar x)) (c .before .before .before .word .ensures) in
+    let sent = c .before .pow3 .ensures ∙ ap (λ (x : ℕ). raise generator (scalar x)) (c .before .before .word .ensures) in
     let image =
     l .loop .inv .1
     ∙ ap (λ (n : ℕ). productOf (first n (b .before .before .weights2 .result)) (l .before .combined-values .result)) end
     ∙ ap₂ productOf (all-points b (omega (arith, r .row .inv .2))) (combined-powers _ _ _ (r .row .u + 1) _ (omega (arith, r .row .inv .2)) (omega arith) (r .row .inv .4) (l .before .combined-values .ensures)) in
     let power = m .before .pow2 .ensures ∙ ap (raise (key .key-at .result)) (m .before .before .sum .ensures ∙ ap (sumOf (points b .before .weights .result)) (e .challenge-values .ensures)) in
-    ap₂ (λ (v w : Element). eqb (v .0) (w .0)) sent (m .mul2 .ensures ∙ ap₂ product image power)
+    c .same .ensures ∙ ap₂ sameElement sent (m .mul2 .ensures ∙ ap₂ product image power)
 
 -- ---- the needs
 
@@ -188,7 +192,8 @@ loop-again c =
     let l = c .before .before .before .before .before in
     let b = l .before .before .before .before in (
       omega arith,
-      c .mul .ensures ∙ ap₂ product (l .loop .inv .1) (c .before .pow .ensures) ∙ sym (product-next (b .before .before .weights2 .result) (l .before .combined-values .result) (l .loop .v) (omega arith)),
+      c .mul .ensures ∙ ap₂ product (l .loop .inv .1) (c .before .pow .ensures)
+          ∙ sym (product-next (b .before .before .weights2 .result) (l .before .combined-values .result) (l .loop .v) _ (omega arith) (omega (arith, sixty-four (l .before)))),
     )
 
 add-challenge-values : tie.Need-add-challenge-values Inv-loop μ-loop Inv-row μ-row
@@ -215,6 +220,9 @@ word-requires c κs = search needs
 pow-requires-3 : tie.Need-pow-requires-3 Inv-loop μ-loop Inv-row μ-row
 pow-requires-3 c κs = search needs
 
+same-requires : tie.Need-same-requires Inv-loop μ-loop Inv-row μ-row
+same-requires c κs = search needs
+
 raised-requires : tie.Need-raised-requires Inv-loop μ-loop Inv-row μ-row
 raised-requires c κs = search needs
 
@@ -228,7 +236,7 @@ row-again : tie.Need-row-again Inv-loop μ-loop Inv-row μ-row
 row-again c =
     let k = c .before .before in
     let r = turn k .before in
-    let good = sym (compared k) ∙ eq-eqb _ _ (c .before .if1 .left) in (
+    let good = sym (compared k) ∙ not-false _ (c .before .if1 .left) in (
       omega (arith, turn k .row-test .taken),
       r .row .inv .1,
       r .row .inv .2,
@@ -246,7 +254,7 @@ returns c =
 returns-2 : tie.Need-returns-2 Inv-loop μ-loop Inv-row μ-row
 returns-2 c =
     let r = turn (c .before) .before in
-    let bad = sym (compared (c .before)) ∙ ne-eqb _ _ (c .if1 .taken) in
+    let bad = sym (compared (c .before)) ∙ not-true _ (c .if1 .taken) in
     let fails : allTo (r .row .u + 1) (fits-of (r .before)) ≡ false = all-next (r .row .u) (fits-of (r .before)) ∙ rw (bad, and-false) in
     sym (fails-stays (fits-of (r .before)) (r .row .u + 1) (r .before .batch .result) (omega (arith, turn (c .before) .row-test .taken)) fails) ∙ tested (r .before)
 
@@ -291,6 +299,7 @@ row-passes-spec =
     cast-word
     word-requires
     pow-requires-3
+    same-requires
     raised-requires
     add-u
     row-less

@@ -4,10 +4,11 @@ use native.Mathlib.Omega.{arith}
 use mathlib.Core.Path.{_∙_}
 use Prim.Native.Nat.{_+_, _-_}
 use lib.ListN.{getD}
-use Rattle.field.specs.Definitions.{element}
+use Rattle.field.specs.Definitions.{identity}
 use Rattle.records.specs.Laws.{bounds-of, key-max}
 use Rattle.protocol.specs.ArrayLaws.{values-interpolated}
-use Rattle.dealing.specs.Definitions.{keyOf}
+use Rattle.dealing.specs.Definitions.{keyIn}
+use Rattle.protocol.specs.Transcript.{keyAt}
 use Rattle.dealing.proofs.Setup.key_at.Statement.{statement}
 use Rattle.dealing.proofs.Setup.key_at.Tie as tie
 
@@ -29,14 +30,14 @@ product-requires : tie.Need-product-requires
 product-requires c κs = search needs
 
 returns : tie.Need-returns
-unfolding keyOf
+unfolding keyAt keyIn
 returns c =
     let points = c .before .before in
     let start = points .before .before .before .before in
     let s = start .args .self in
     c .product .ensures
     ∙ rw (c .before .weights .ensures, points .committed-points .ensures, points .before .before .key-values .ensures)
-    (values-interpolated (s .t + s .a) (s .a) (λ v. getD (s .key) (v + 1 - s .a) (element 0)) (start .args .x) (omega (arith, key-max (bounds-of (s .n) (s .t) (s .a) (start .pre)))))
+    (values-interpolated (s .t + s .a) (s .a) (λ v. getD (s .key) (v + 1 - s .a) identity) (start .args .x) (omega (arith, key-max (bounds-of (s .n) (s .t) (s .a) (start .pre)))))
 
 pub key-at-spec : {M : Type 1} → statement M
 key-at-spec =

@@ -3,6 +3,7 @@ use borrow.Author.Needs.{needs}
 use native.Mathlib.Omega.{arith}
 use mathlib.Core.Path.{_∙_}
 use Rattle.interpolation.specs.Bases.{weights-by}
+use Rattle.interpolation.specs.Laws.{slot-is}
 use Rattle.response.proofs.Rows.{phi-members}
 use Rattle.response.proofs.Responses.interpolated.Statement.{statement}
 use Rattle.response.proofs.Responses.interpolated.Tie as tie
@@ -24,7 +25,7 @@ returns c =
     let weights = c .before .before in
     let start = weights .before .before .before in
     c .sum .ensures
-    ∙ rw (c .before .member-numbers .ensures, weights .weights .ensures, start .pre, weights-by, weights .before .point .ensures)
+    ∙ rw (c .before .member-numbers .ensures, weights .weights .ensures, start .pre, weights-by, weights .before .point .ensures, ← slot-is)
     (phi-members (start .args .n) (start .args .self) (start .args .u) (start .args .k) (omega arith))
 
 pub interpolated-spec : {M : Type 1} → statement M

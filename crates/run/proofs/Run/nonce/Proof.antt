@@ -3,10 +3,10 @@ use native.Mathlib.Omega.{arith}
 use borrow.Author.Tests.{le-leb, lt-leb}
 use Rattle.lists.specs.Calls.{holds, fails}
 use Prim.Native.Nat.{_≤_, _<_}
-use mathlib.Core.Path.{refl, ap, _∙_}
+use mathlib.Core.Path.{refl, sym, ap, _∙_}
+use Rattle.interpolation.specs.Laws.{slot-is}
 use Rattle.records.specs.Laws.{bounds-test}
 use Rattle.protocol.specs.Transcript.{nonce, combinedAt}
-use Rattle.run.specs.declared.Nonce.{Nonce}
 use Rattle.run.specs.declared.Nonce.the-variants as N
 use Rattle.run.specs.Runs.{stageOf, transcriptOf}
 use Rattle.run.specs.RunLaws.{formed-of, stage-live}
@@ -68,7 +68,7 @@ returns-4 c =
     let a = asked .before .before .before .before .before .args in
     let r = a .self in
     rw (le-leb 3 (stageOf r) (live asked .0), le-leb (stageOf r) 5 (live asked .1), holds (asked .before .in-batch .ensures) (asked .if3 .left))
-    (ap N.Is (c .combined-at .ensures (r .challenges) ∙ ap (combinedAt (transcriptOf r) (a .u)) (c .before .point .ensures)))
+    (ap N.Is (c .combined-at .ensures (r .challenges) ∙ ap (combinedAt (transcriptOf r) (a .u)) (c .before .point .ensures ∙ sym (slot-is (a .k)))))
 
 pub nonce-spec : {M : Type 1} → statement M
 nonce-spec =

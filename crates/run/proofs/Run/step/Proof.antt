@@ -1,6 +1,6 @@
 -- `Run::step` meets its contract: each arm is one handler. Assumes nothing.
 use borrow.Author.Needs.{needs}
-use mathlib.Core.Path.{_≡_, sym, ap, _∙_}
+use mathlib.Core.Path.{_≡_, sym, _∙_}
 use mathlib.Core.Bool.{true}
 use Rattle.run.specs.declared.Handler.{Handler}
 use Rattle.run.specs.declared.Reply.{Reply}

@@ -11,7 +11,6 @@ use Rattle.records.specs.Parameters.{quorum}
 use Rattle.records.specs.Laws.{bounds-test}
 use Rattle.run.specs.declared.Run.{Run}
 use Rattle.response.specs.declared.Responses.{Responses}
-use Rattle.response.specs.Definitions.{withResponse}
 use Rattle.run.specs.Steps.{withRow, finished, afterResponse}
 use Rattle.run.specs.RunLaws.{formed-of}
 use Rattle.run.proofs.Numbers.{refused-by, accepted-by}

@@ -1,7 +1,6 @@
 -- `Run::untaken` meets its contract: 0 for each handler, or the refusal. Assumes nothing.
 use borrow.Author.Needs.{needs}
 use mathlib.Core.Path.{_≡_, sym, ap, _∙_}
-use Prim.Native.Nat.{ℕ}
 use Rattle.run.specs.declared.Handler.{Handler}
 use Rattle.run.specs.Steps.{refusalOf, untaken}
 use Rattle.run.proofs.Stages.{untaken-by}
