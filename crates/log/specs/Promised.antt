@@ -8,15 +8,17 @@ use lib.ListN.{length, length-append, length-drop, take-append-drop}
 use lib.Dec.{ltb}
 use borrow.Author.Tests.{ltb-false}
 use Rattle.lists.specs.Tests.{pick-case}
+use Rattle.text.specs.Lines.{line}
+use Rattle.text.specs.LineLaws.{line-max}
 use Rattle.run.specs.declared.Run.{Run}
 use Rattle.run.specs.Runs.{fresh}
 use Rattle.run.specs.Steps.{stepOf, after}
 use Rattle.run.specs.KeepsFormed.{Regular, regular-fresh, regular-after}
+use Rattle.closing.specs.Lengths.{closing-max}
 use Rattle.log.specs.Cutting.{recordsOf, runOf}
-use Rattle.log.specs.Report.{line, longWord, reportOf}
-use Rattle.log.specs.TextLaws.{line-max}
+use Rattle.log.specs.Report.{longWord, reportOf}
+use Rattle.log.specs.Lengths.{empty-or, lines-max}
 use Rattle.log.specs.Turns.{nextLength, nextRecord, nextRest, recordsFrom, next-pos, records-none, records-next, lines-start}
-use Rattle.log.specs.Lengths.{empty-or, lines-max, closing-max}
 use Rattle.log.specs.Printed.{mostReport}
 
 -- The run after a log is the run after the list of its records: the first is given to a fresh run, and each later one to the run returned for the

@@ -10,11 +10,12 @@ use lib.Seq.{take-length, drop-length}
 use lib.Dec.{eqb, leb}
 use borrow.Author.Tests.{leb-true, eq-eqb, ne-eqb}
 use Rattle.lists.specs.Tests.{pick, pick-case, and-left, and-right}
+use Rattle.text.specs.Lines.{line}
 use Rattle.run.specs.declared.Run.{Run}
 use Rattle.run.specs.Runs.{fresh}
 use Rattle.run.specs.Steps.{stepOf, afterFrom, after}
 use Rattle.log.specs.Cutting.{lengthOf, whole, cutFrom, recordsOf, runOf}
-use Rattle.log.specs.Report.{line, refuseWord, refusalLines}
+use Rattle.log.specs.Report.{refuseWord, refusalLines}
 
 -- the length of the next record: by its tag where it is whole, else all that is left
 unfoldable pub nextLength : Run → List ℕ → ℕ

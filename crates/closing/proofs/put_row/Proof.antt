@@ -4,16 +4,16 @@ use Prim.Native.Nat.{_+_, _*_, _-_, _≤_, _<_}
 use native.Mathlib.Omega.{arith}
 use borrow.Author.Needs.{needs}
 use lib.ListN.{length}
-use Rattle.records.specs.Laws.{Bounds, quorum-max}
 use Rattle.interpolation.specs.Bases.{weights-by}
+use Rattle.records.specs.Laws.{Bounds, quorum-max}
+use Rattle.text.specs.Texts.{Wrote, wrote-none, wrote-length, wrote-append}
 use Rattle.protocol.specs.Transcript.{nonce}
 use Rattle.protocol.specs.Powers.{combined-powers}
 use Rattle.run.specs.Runs.{transcriptOf}
 use Rattle.run.specs.RunLaws.{formed-of}
-use Rattle.log.specs.Texts.{Wrote, wrote-none, wrote-length, wrote-append}
-use Rattle.log.specs.SignatureRows.{rowLines, line-is, row-next, row-max, nonce-is, kept-at, kept-below}
-use Rattle.log.proofs.put_row.Statement.{statement}
-use Rattle.log.proofs.put_row.Tie as tie
+use Rattle.closing.specs.SignatureRows.{rowLines, line-is, row-next, row-max, nonce-is, kept-at, kept-below}
+use Rattle.closing.proofs.put_row.Statement.{statement}
+use Rattle.closing.proofs.put_row.Tie as tie
 
 abbrev Inv-loop : tie.InvT-loop
 Inv-loop out₀ at u run a quorum values basis first next₀ k₀ out next k = (k ≤ a) × Wrote out₀ out next₀ next (rowLines run u k)

@@ -10,14 +10,14 @@ use lib.Dec.{eqb}
 use lib.ListN.{length}
 use Rattle.lists.specs.Tests.{pick}
 use Rattle.records.specs.Parameters.{batch}
+use Rattle.text.specs.Texts.{Wrote, wrote-none, wrote-length, wrote-append}
+use Rattle.text.specs.LineLaws.{set-place}
 use Rattle.run.specs.Runs.{stageOf}
 use Rattle.run.specs.RunLaws.{stage-live}
-use Rattle.log.specs.Report.{holdWord, qualWord, badWord, signatureLines, closing}
-use Rattle.log.specs.Texts.{Wrote, wrote-none, wrote-length, wrote-append}
-use Rattle.log.specs.TextLaws.{setLine-max}
-use Rattle.log.specs.Lengths.{signed-max}
-use Rattle.log.proofs.put_closing.Statement.{statement}
-use Rattle.log.proofs.put_closing.Tie as tie
+use Rattle.closing.specs.Closing.{signatureLines, closing}
+use Rattle.closing.specs.Lengths.{signed-max}
+use Rattle.closing.proofs.put_closing.Statement.{statement}
+use Rattle.closing.proofs.put_closing.Tie as tie
 
 stage-of-requires : tie.Need-stage-of-requires
 stage-of-requires c κs = search needs
@@ -41,10 +41,9 @@ first-room : (c : tie.After-put-set) →
     let a = c .before .before .before .before .before .before .args in
     (length (c .put-set .last .0) ≡ length (a .out .now)) × (c .put-set .result ≤ a .at + 359)
 first-room c =
-    let f = c .before .before .before in
-    let s = f .before .before .before in (
+    let s = c .before .before .before .before .before .before in (
       c .put-set .kept .0,
-      omega (arith, c .put-set .ensures .place, setLine-max holdWord (s .args .run .setup .n) (f .sets .result .hold), s .pre .0),
+      omega (arith, set-place _ _ _ (c .put-set .ensures), s .pre .0),
     )
 
 put-set-requires-2 : tie.Need-put-set-requires-2
@@ -61,10 +60,9 @@ second-room : (c : tie.After-put-set2) →
     (length (c .put-set2 .last .0) ≡ length (a .out .now)) × (c .put-set2 .result ≤ a .at + 718)
 second-room c =
     let p = c .before .before .before .before .before in
-    let f = p .before .before .before in
-    let s = f .before .before .before in (
+    let s = p .before .before .before .before .before .before in (
       c .put-set2 .kept .0 ∙ first-room p .0,
-      omega (arith, first-room p .1, c .put-set2 .ensures .place, setLine-max qualWord (s .args .run .setup .n) (f .sets .result .qual), s .pre .0),
+      omega (arith, first-room p .1, set-place _ _ _ (c .put-set2 .ensures), s .pre .0),
     )
 
 put-set-requires-3 : tie.Need-put-set-requires-3
@@ -78,10 +76,9 @@ third-room : (c : tie.After-put-set3) →
     (length (c .put-set3 .last .0) ≡ length (a .out .now)) × (c .put-set3 .result ≤ a .at + 1077)
 third-room c =
     let p = c .before .before .before .before .before in
-    let f = p .before .before .before .before .before .before .before .before in
-    let s = f .before .before .before in (
+    let s = p .before .before .before .before .before .before .before .before .before .before .before in (
       c .put-set3 .kept .0 ∙ second-room p .0,
-      omega (arith, second-room p .1, c .put-set3 .ensures .place, setLine-max badWord (s .args .run .setup .n) (f .sets .result .bad), s .pre .0),
+      omega (arith, second-room p .1, set-place _ _ _ (c .put-set3 .ensures), s .pre .0),
     )
 
 put-signatures-requires : tie.Need-put-signatures-requires

@@ -8,11 +8,11 @@ use borrow.Author.Needs.{needs}
 use lib.ListN.{length, length-set}
 use Rattle.sets.specs.Masks.{has, membersFrom, members}
 use Rattle.sets.specs.MemberLaws.{members-next, count-le}
-use Rattle.log.specs.Report.{fields, setText, setLine}
-use Rattle.log.specs.Texts.{Wrote, wrote-none, wrote-length, wrote-byte, wrote-append}
-use Rattle.log.specs.TextLaws.{fields-snoc, fields-max, setText-none, setText-some, setText-max}
-use Rattle.log.proofs.put_set.Statement.{statement}
-use Rattle.log.proofs.put_set.Tie as tie
+use Rattle.text.specs.Lines.{fields, setText, setLine}
+use Rattle.text.specs.Texts.{Wrote, wrote-none, wrote-length, wrote-byte, wrote-append}
+use Rattle.text.specs.LineLaws.{fields-snoc, fields-max, setText-none, setText-some, setText-max}
+use Rattle.text.proofs.put_set.Statement.{statement}
+use Rattle.text.proofs.put_set.Tie as tie
 
 abbrev Inv-loop : tie.InvT-loop
 Inv-loop out₀ at word n mask start next₀ i₀ t9 out next i = (i ≤ n) × Wrote out₀ out next₀ next (fields (members i (has mask)))

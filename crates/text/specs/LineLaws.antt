@@ -12,7 +12,8 @@ use borrow.Author.Tests.{lt-ltb}
 use Rattle.lists.specs.Tests.{pick, pick-case}
 use Rattle.sets.specs.Masks.{has, members}
 use Rattle.sets.specs.MemberLaws.{count-le}
-use Rattle.log.specs.Report.{decimalTo, decimal, field, fields, line, setText, setLine}
+use Rattle.text.specs.Texts.{Wrote}
+use Rattle.text.specs.Lines.{decimalTo, decimal, field, fields, line, setText, setLine}
 
 -- ---- decimals
 
@@ -85,3 +86,7 @@ setText-max (n ∷ l) = omega (arith, fields-max (n ∷ l))
 pub setLine-max : (word : List ℕ) (n mask : ℕ) → length (setLine word n mask) ≤ length word + 11 * n + 3
 unfolding setLine
 setLine-max word n mask = simp length-append (omega (arith, setText-max (members n (has mask)), count-le n (has mask)))
+
+-- where the line of a set ends at most
+pub set-place : {l m : List ℕ} {i j : ℕ} (word : List ℕ) (n mask : ℕ) → Wrote l m i j (setLine word n mask) → j ≤ i + (length word + 11 * n + 3)
+set-place word n mask w = omega (arith, w .place, setLine-max word n mask)

@@ -11,14 +11,14 @@ use borrow.Fn.PlainCycle.{Measures, is, falls, and}
 use lib.Dec.{ltb}
 use lib.ListN.{length, length-append, length-set}
 use Rattle.lists.specs.Tests.{pick}
-use Rattle.log.specs.Report.{decimal}
-use Rattle.log.specs.Texts.{Wrote, wrote-none, wrote-length, wrote-byte, wrote-append}
-use Rattle.log.specs.TextLaws.{decimal-last, decimal-max}
-use Rattle.log.proofs.put_decimal.Reads as put-decimal
-use Rattle.log.proofs.put_decimal.Kinds as put-decimal-kinds
-use Rattle.log.proofs.+put_decimal.Lts-put_decimal as put-decimal-lts
-use Rattle.log.proofs.+put_decimal.{statement}
-use Rattle.log.proofs.+put_decimal.Tie.{close}
+use Rattle.text.specs.Lines.{decimal}
+use Rattle.text.specs.Texts.{Wrote, wrote-none, wrote-length, wrote-byte, wrote-append}
+use Rattle.text.specs.LineLaws.{decimal-last, decimal-max}
+use Rattle.text.proofs.put_decimal.Reads as put-decimal
+use Rattle.text.proofs.put_decimal.Kinds as put-decimal-kinds
+use Rattle.text.proofs.+put_decimal.Lts-put_decimal as put-decimal-lts
+use Rattle.text.proofs.+put_decimal.{statement}
+use Rattle.text.proofs.+put_decimal.Tie.{close}
 
 abbrev μ-put-decimal : Measures 1 put-decimal-kinds.ps ℕ
 μ-put-decimal κs a = a .1 .1 .0

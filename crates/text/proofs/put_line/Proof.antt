@@ -5,11 +5,11 @@ use native.Mathlib.Omega.{arith}
 use borrow.Author.Needs.{needs}
 use lib.ListN.{length, take, length-take, length-set}
 use lib.Seq.{take-length}
-use Rattle.log.specs.Report.{fields, line}
-use Rattle.log.specs.Texts.{Wrote, wrote-none, wrote-length, wrote-byte, wrote-append}
-use Rattle.log.specs.TextLaws.{fields-take, fields-max}
-use Rattle.log.proofs.put_line.Statement.{statement}
-use Rattle.log.proofs.put_line.Tie as tie
+use Rattle.text.specs.Lines.{fields, line}
+use Rattle.text.specs.Texts.{Wrote, wrote-none, wrote-length, wrote-byte, wrote-append}
+use Rattle.text.specs.LineLaws.{fields-take, fields-max}
+use Rattle.text.proofs.put_line.Statement.{statement}
+use Rattle.text.proofs.put_line.Tie as tie
 
 abbrev Inv-loop : tie.InvT-loop
 Inv-loop out₀ at word numbers next₀ count i₀ out next i = (i ≤ length numbers) × Wrote out₀ out next₀ next (fields (take i numbers))

@@ -8,9 +8,9 @@ use native.Mathlib.Omega.{arith}
 use borrow.Author.Needs.{needs}
 use lib.ListN.{length, take, set, getD}
 use lib.Seq.{take-suc, take-length}
-use Rattle.log.specs.Texts.{Wrote, wrote-none, wrote-length, wrote-byte, wrote-append}
-use Rattle.log.proofs.put_text.Statement.{statement}
-use Rattle.log.proofs.put_text.Tie as tie
+use Rattle.text.specs.Texts.{Wrote, wrote-none, wrote-length, wrote-byte, wrote-append}
+use Rattle.text.proofs.put_text.Statement.{statement}
+use Rattle.text.proofs.put_text.Tie as tie
 
 abbrev Inv-loop : tie.InvT-loop
 Inv-loop out₀ at text count i₀ out i = (i ≤ length text) × Wrote out₀ out at (at + i) (take i text)

@@ -3,10 +3,10 @@ use mathlib.Core.Path.{_∙_}
 use native.Mathlib.Omega.{arith}
 use borrow.Author.Needs.{needs}
 use lib.ListN.{length-set}
-use Rattle.log.specs.Report.{field}
-use Rattle.log.specs.Texts.{wrote-byte, wrote-append}
-use Rattle.log.proofs.put_field.Statement.{statement}
-use Rattle.log.proofs.put_field.Tie as tie
+use Rattle.text.specs.Lines.{field}
+use Rattle.text.specs.Texts.{wrote-byte, wrote-append}
+use Rattle.text.proofs.put_field.Statement.{statement}
+use Rattle.text.proofs.put_field.Tie as tie
 
 slice-write-out : tie.Need-slice-write-out
 slice-write-out c = search needs

@@ -17,17 +17,15 @@ use Rattle.interpolation.specs.Definitions.{slot, committedPoint, elementAt}
 use Rattle.interpolation.specs.Rows.{listed, weightsOf, productOf}
 use Rattle.records.specs.Parameters.{quorum, batch}
 use Rattle.records.specs.Laws.{Bounds, quorum-max, cells-max}
+use Rattle.text.specs.Lines.{line}
+use Rattle.text.specs.LineLaws.{line-max}
 use Rattle.protocol.specs.Transcript.{nonce}
 use Rattle.protocol.specs.Arrays.{cell, commitmentIn, elements, combinedValue}
 use Rattle.protocol.specs.ArrayLaws.{values-interpolated}
 use Rattle.protocol.specs.Combined.{combined-values}
 use Rattle.run.specs.declared.Run.{Run}
 use Rattle.run.specs.Runs.{transcriptOf, qualOf, kept}
-use Rattle.log.specs.Report.{line, sigWord, signatureLines}
-use Rattle.log.specs.TextLaws.{line-max}
-
-unfoldable pub signatureLine : Run → ℕ → ℕ → List ℕ
-signatureLine r u k = line sigWord (u ∷ k ∷ nonce (transcriptOf r) u k .0 ∷ kept r u k .0 ∷ [])
+use Rattle.closing.specs.Closing.{sigWord, signatureLine, signatureLines}
 
 -- the slots 1 to k of one u
 unfoldable pub rowLines : Run → ℕ → ℕ → List ℕ
@@ -45,7 +43,7 @@ row-next r u k = ap (rowLines r u) (add-one k)
 
 -- one line more, u outer
 signatures-next : (r : Run) (u k : ℕ) → k < r .setup .a → signatureLines r (u * r .setup .a + k) ++ signatureLine r (u + 1) (k + 1) ≡ signatureLines r (suc (u * r .setup .a + k))
-unfolding signatureLines signatureLine
+unfolding signatureLines
 signatures-next r u k l = rw (digits-div u {m = r .setup .a} {r = k} l, digits-mod u {m = r .setup .a} {r = k} l)
 
 -- the first u rows, and k lines of the next
@@ -70,7 +68,7 @@ unfolding signatureLine
 signature-max r u k = line-max sigWord (u ∷ k ∷ nonce (transcriptOf r) u k .0 ∷ kept r u k .0 ∷ [])
 
 pub signatures-max : (r : Run) (m : ℕ) → length (signatureLines r m) ≤ 48 * m
-unfolding signatureLines signatureLine
+unfolding signatureLines
 signatures-max r zero = omega arith
 signatures-max r (suc m) =
     let a = r .setup .a in

@@ -7,14 +7,14 @@ use borrow.Author.Needs.{needs}
 use lib.ListN.{length}
 use Rattle.records.specs.Parameters.{batch}
 use Rattle.records.specs.Laws.{Bounds, batch-max, cells-max}
+use Rattle.text.specs.Texts.{Wrote, wrote-none, wrote-length, wrote-append}
 use Rattle.protocol.specs.Arrays.{powersAt}
 use Rattle.protocol.specs.Powers.{powers-none, powers-next}
 use Rattle.run.specs.RunLaws.{formed-of}
-use Rattle.log.specs.Report.{signatureLines}
-use Rattle.log.specs.Texts.{Wrote, wrote-none, wrote-length, wrote-append}
-use Rattle.log.specs.SignatureRows.{rows-next, signatures-max}
-use Rattle.log.proofs.put_signatures.Statement.{statement}
-use Rattle.log.proofs.put_signatures.Tie as tie
+use Rattle.closing.specs.Closing.{signatureLines}
+use Rattle.closing.specs.SignatureRows.{rows-next, signatures-max}
+use Rattle.closing.proofs.put_signatures.Statement.{statement}
+use Rattle.closing.proofs.put_signatures.Tie as tie
 
 abbrev Inv-loop : tie.InvT-loop
 Inv-loop out₀ at run count powers₀ next₀ u₀ out powers next u = (u ≤ count) × (powers ≡ powersAt (run .setup .n) powers₀ u) × Wrote out₀ out next₀ next (signatureLines run (u * run .setup .a))
