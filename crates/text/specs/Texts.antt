@@ -1,11 +1,12 @@
 -- A text stored in a buffer at a place, and the laws of such stores. Assumes nothing.
 use mathlib.Core.Path.{_≡_, refl, sym, ap, ap₂, _∙_}
 use mathlib.Core.List.{List, [], _∷_, _++_}
-use Prim.Native.Nat.{ℕ, suc, _+_}
-use native.Mathlib.Nat.{add-zero, add-suc, suc-add, zero-add}
+use Prim.Native.Nat.{ℕ, _+_}
+use native.Mathlib.Nat.{zero-add}
 use native.Mathlib.Omega.{arith}
 use lib.ListN.{length, set, length-append}
 use lib.Seq.{sets, length-sets}
+use Rattle.lists.specs.Stores.{sets-append}
 
 -- a text stands from a place on, which was not so before, and next is the place after it
 pub record Wrote (before after : List ℕ) (at next : ℕ) (text : List ℕ) : Type 0 where
@@ -16,12 +17,6 @@ pub record Wrote (before after : List ℕ) (at next : ℕ) (text : List ℕ) : T
 pub record Ahead (before after : List ℕ) (at : ℕ) (page rest : List ℕ) : Type 0 where
   pub place : at + length rest ≡ length page
   pub bytes : sets after at rest ≡ sets before 0 page
-
--- two texts, one after the other, are stored as one
-pub sets-append : (s t l : List ℕ) (at : ℕ) → sets l at (s ++ t) ≡ sets (sets l at s) (at + length s) t
-sets-append [] t l at = ap (λ (k : ℕ). sets l k t) (sym (add-zero at))
-sets-append (b ∷ s) t l at =
-    sets-append s t (set l at b) (suc at) ∙ ap (λ (k : ℕ). sets (sets (set l at b) (suc at) s) k t) (suc-add at (length s) ∙ sym (add-suc at (length s)))
 
 pub wrote-none : (l : List ℕ) (at : ℕ) → Wrote l l at at []
 wrote-none l at = record { place = omega arith; bytes = refl }
