@@ -1,5 +1,5 @@
 -- What is promised of every log and its page. Assumes nothing.
-use mathlib.Core.Path.{_≡_, refl, sym, ap, _∙_}
+use mathlib.Core.Path.{_≡_, sym, ap, _∙_}
 use mathlib.Core.Logic.{⊎-elim}
 use mathlib.Core.List.{List, [], flatten, _++_}
 use Prim.Native.Nat.{ℕ, zero, suc, _≤_}
@@ -21,13 +21,7 @@ use Rattle.log.specs.Lengths.{empty-or, lines-max}
 use Rattle.log.specs.Turns.{nextLength, nextRecord, nextRest, recordsFrom, next-pos, records-none, records-next, lines-start}
 use Rattle.log.specs.Printed.{mostReport}
 
--- The run after a log is the run after the list of its records: the first is given to a fresh run, and each later one to the run returned for the
--- one before it. So what is shown of every list of records, as demand 3 is, holds of every log.
-pub run-after : (log : List ℕ) → runOf log ≡ after (recordsOf log)
-unfolding runOf
-run-after log = refl
-
--- such a run has at most 32 parties, and past stage 0 it is well formed
+-- the run after a log has at most 32 parties, and past stage 0 it is well formed
 pub run-regular : (log : List ℕ) → Regular (runOf log)
 unfolding runOf after
 run-regular log = regular-after fresh regular-fresh (recordsOf log)
