@@ -19,7 +19,9 @@ use Rattle.protocol.specs.Transcript.{dealingAt, validShare, coefficient, keyAt
 use Rattle.protocol.specs.Arrays.{base, cell}
 use Rattle.run.specs.Runs.{noSetup, noDealings, noComplaints, noResponses, noScalars, begun, fresh, wellFormed, stageOf, transcriptOf, qualOf, setsOf, phiOf, kept}
 use Rattle.log.specs.Cutting.{lengthAt, lengthOf, whole, cutFrom, recordsOf, runOf}
-use Rattle.log.specs.Report.{decimalTo, decimal, field, fields, line, refusalLines, setText, setLine, signatureLines, closing, reportOf}
+use Rattle.text.specs.Lines.{decimalTo, decimal, field, fields, line, setText, setLine}
+use Rattle.closing.specs.Closing.{signatureLine, signatureLines, closing}
+use Rattle.log.specs.Report.{refusalLines, reportOf}
 use Rattle.run.specs.Steps.{orNext, setupOf, afterSetup, dealingNumber, wrongShares, withDealing, afterDealing, mayBlame, complaintNumber, withComplaint, complaintStage, afterComplaint, challengesNumber, afterChallenges, responseNumber, withResponse, withRow, finished, afterResponse, taken, stepAt, stepOf, afterFrom, after}
 
 -- ---- records
@@ -146,5 +148,5 @@ cases =
 
 -- every case comes out as document 01 says
 computed : map (λ c. c .0) cases ≡ map (λ c. c .1) cases
-unfolding worked joined page workedPage lengthAt lengthOf whole cutFrom recordsOf runOf decimalTo decimal field fields line refusalLines setText setLine signatureLines closing reportOf qualOf four fours setup dealing complaint challenges response su dealt held challenged said answer test cases fold allTo require stored filled bit has insert minus maskOf membersFrom q P powerTo powerOf isScalar isElement reduced plus F.minus times inverseTo inverseOf inverse power product raise point factor weight scalarAt elementAt inBounds quorum batch byteAt numberAt word tagOf setupLength dealingLength complaintLength challengesLength responseLength setupRefusal sharesFrom dealingRefusal maskFits complaintRefusal challengesRefusal responseRefusal dealingAt validShare coefficient keyAt combinedAt nonce challengeAt responseAt passes noSetup noDealings noComplaints noResponses noScalars begun fresh wellFormed stageOf base cell transcriptOf setsOf phiOf kept orNext setupOf afterSetup dealingNumber wrongShares withDealing afterDealing mayBlame complaintNumber withComplaint complaintStage afterComplaint challengesNumber afterChallenges responseNumber withResponse withRow finished afterResponse taken stepAt stepOf afterFrom after
+unfolding worked joined page workedPage lengthAt lengthOf whole cutFrom recordsOf runOf decimalTo decimal field fields line refusalLines setText setLine signatureLine signatureLines closing reportOf qualOf four fours setup dealing complaint challenges response su dealt held challenged said answer test cases fold allTo require stored filled bit has insert minus maskOf membersFrom q P powerTo powerOf isScalar isElement reduced plus F.minus times inverseTo inverseOf inverse power product raise point factor weight scalarAt elementAt inBounds quorum batch byteAt numberAt word tagOf setupLength dealingLength complaintLength challengesLength responseLength setupRefusal sharesFrom dealingRefusal maskFits complaintRefusal challengesRefusal responseRefusal dealingAt validShare coefficient keyAt combinedAt nonce challengeAt responseAt passes noSetup noDealings noComplaints noResponses noScalars begun fresh wellFormed stageOf base cell transcriptOf setsOf phiOf kept orNext setupOf afterSetup dealingNumber wrongShares withDealing afterDealing mayBlame complaintNumber withComplaint complaintStage afterComplaint challengesNumber afterChallenges responseNumber withResponse withRow finished afterResponse taken stepAt stepOf afterFrom after
 computed = refl

@@ -18,7 +18,9 @@ use Rattle.protocol.specs.Transcript.{dealingAt, validShare, coefficient, keyAt
 use Rattle.protocol.specs.Arrays.{base, cell}
 use Rattle.run.specs.Runs.{noSetup, noDealings, noComplaints, noResponses, noScalars, begun, fresh, wellFormed, stageOf, transcriptOf, qualOf, setsOf, phiOf, kept}
 use Rattle.log.specs.Cutting.{lengthAt, lengthOf, whole, cutFrom, recordsOf, runOf}
-use Rattle.log.specs.Report.{decimalTo, decimal, field, fields, line, refusalLines, setText, setLine, signatureLines, closing, reportOf}
+use Rattle.text.specs.Lines.{decimalTo, decimal, field, fields, line, setText, setLine}
+use Rattle.closing.specs.Closing.{signatureLine, signatureLines, closing}
+use Rattle.log.specs.Report.{refusalLines, reportOf}
 use Rattle.run.specs.Steps.{orNext, setupOf, afterSetup, dealingNumber, wrongShares, withDealing, afterDealing, mayBlame, complaintNumber, withComplaint, complaintStage, afterComplaint, challengesNumber, afterChallenges, responseNumber, withResponse, withRow, finished, afterResponse, taken, stepAt, stepOf, afterFrom, after}
 
 packed : List (List ℕ)
@@ -69,5 +71,5 @@ packedPage =
     ∷ 101 ∷ 110 ∷ 100 ∷ 32 ∷ 53 ∷ 10 ∷ []
 
 computed : reportOf (joined packed) ≡ packedPage
-unfolding packed joined packedPage lengthAt lengthOf whole cutFrom recordsOf runOf decimalTo decimal field fields line refusalLines setText setLine signatureLines closing reportOf qualOf fold allTo require stored filled bit has insert minus maskOf membersFrom q P powerTo powerOf isScalar isElement reduced plus F.minus times inverseTo inverseOf inverse power product raise point factor weight scalarAt elementAt inBounds quorum batch byteAt numberAt word tagOf setupLength dealingLength complaintLength challengesLength responseLength setupRefusal sharesFrom dealingRefusal maskFits complaintRefusal challengesRefusal responseRefusal dealingAt validShare coefficient keyAt combinedAt nonce challengeAt responseAt passes noSetup noDealings noComplaints noResponses noScalars begun fresh wellFormed stageOf base cell transcriptOf setsOf phiOf kept orNext setupOf afterSetup dealingNumber wrongShares withDealing afterDealing mayBlame complaintNumber withComplaint complaintStage afterComplaint challengesNumber afterChallenges responseNumber withResponse withRow finished afterResponse taken stepAt stepOf afterFrom after
+unfolding packed joined packedPage lengthAt lengthOf whole cutFrom recordsOf runOf decimalTo decimal field fields line refusalLines setText setLine signatureLine signatureLines closing reportOf qualOf fold allTo require stored filled bit has insert minus maskOf membersFrom q P powerTo powerOf isScalar isElement reduced plus F.minus times inverseTo inverseOf inverse power product raise point factor weight scalarAt elementAt inBounds quorum batch byteAt numberAt word tagOf setupLength dealingLength complaintLength challengesLength responseLength setupRefusal sharesFrom dealingRefusal maskFits complaintRefusal challengesRefusal responseRefusal dealingAt validShare coefficient keyAt combinedAt nonce challengeAt responseAt passes noSetup noDealings noComplaints noResponses noScalars begun fresh wellFormed stageOf base cell transcriptOf setsOf phiOf kept orNext setupOf afterSetup dealingNumber wrongShares withDealing afterDealing mayBlame complaintNumber withComplaint complaintStage afterComplaint challengesNumber afterChallenges responseNumber withResponse withRow finished afterResponse taken stepAt stepOf afterFrom after
 computed = refl

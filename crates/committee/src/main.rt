@@ -55,7 +55,7 @@ fn dealt_share(i: u8, j: u8) -> u32 {
 fn set_up(run: Run) -> Run {
     let shares: [u32; 1] = [222222222];
     let mut out = [0u8; 14];
-    if writers::write_setup(6, 1, 2, 123456789, &shares, &mut out) != 0 {
+    if dealer::write_setup(6, 1, 2, 123456789, &shares, &mut out) != 0 {
         return run;
     }
     give(run, &out)
@@ -73,7 +73,7 @@ fn deal(run: Run, i: u8) -> Run {
         dealt_value(i, 3),
     ];
     let mut out = [0u8; 44];
-    if writers::write_dealing(6, 1, 2, i, &values, &mut out) != 0 {
+    if dealer::write_dealing(6, 1, 2, i, &values, &mut out) != 0 {
         return run;
     }
     if i == 4 {

@@ -1,15 +1,15 @@
 -- Runs of stores into a list, and a list filled with one element, at any element type; and their laws.
 -- Assumes nothing.
 use mathlib.Core.Path.{_≡_, refl, sym, ap, ap₂, _∙_}
-use mathlib.Core.List.{List, [], _∷_}
+use mathlib.Core.List.{List, [], _∷_, _++_}
 use mathlib.Core.Logic.{_≢_}
 use Prim.Native.Nat.{ℕ, zero, suc, _+_, _-_, _≤_, _<_, min}
 use native.Mathlib.Omega.{arith}
-use native.Mathlib.Nat.{zero-add, add-zero, add-suc}
+use native.Mathlib.Nat.{zero-add, add-zero, add-suc, suc-add}
 use native.Mathlib.Numerals.{add-one}
 use native.Mathlib.Decide.{ℕ-discrete, decLe, decLt}
 use lib.ListN.{length, getD, set, replicate, length-set, length-replicate, getD-replicate, List·getD-eq-default}
-use lib.Seq.{set-out, getD-set-same, getD-set-other}
+use lib.Seq.{sets, set-out, getD-set-same, getD-set-other}
 
 -- the list with f 0, .., f (k - 1) in place of what stands from base
 unfoldable pub stored : {A : Type 0} → List A → ℕ → ℕ → (ℕ → A) → List A
@@ -27,6 +27,12 @@ module _ {A : Type 0} where
   unfolding stored
   length-stored l base zero f = refl
   length-stored l base (suc k) f = length-set (stored l base k f) (base + k) (f k) ∙ length-stored l base k f
+
+  -- two lists stored one after the other are stored as one
+  pub sets-append : (s t l : List A) (at : ℕ) → sets l at (s ++ t) ≡ sets (sets l at s) (at + length s) t
+  sets-append [] t l at = ap (λ (k : ℕ). sets l k t) (sym (add-zero at))
+  sets-append (x ∷ s) t l at =
+      sets-append s t (set l at x) (suc at) ∙ ap (λ (k : ℕ). sets (sets (set l at x) (suc at) s) k t) (suc-add at (length s) ∙ sym (add-suc at (length s)))
 
   -- one store more, as a loop counts
   pub stored-next : (l : List A) (base k : ℕ) (f : ℕ → A) → stored l base (k + 1) f ≡ set (stored l base k f) (base + k) (f k)

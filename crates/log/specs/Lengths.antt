@@ -9,22 +9,19 @@ use native.Mathlib.Omega.{arith}
 use lib.ListN.{length, drop, length-append, length-drop}
 use lib.Seq.{drop-length}
 use lib.Dec.{eqb, leb}
-use borrow.Author.Tests.{eqb-true, eqb-false}
+use borrow.Author.Tests.{eqb-false}
 use Rattle.lists.specs.Tests.{pick, pick-case}
-use Rattle.records.specs.Parameters.{batch}
 use Rattle.records.specs.Bytes.{byteAt}
 use Rattle.records.specs.Tags.{Tag, SU, DE, VE, CH, RE, unknown, tagOf, setupLength, dealingLength, complaintLength, challengesLength, responseLength}
-use Rattle.records.specs.Laws.{Bounds, quorum-pos, batch-pos, cells-max}
+use Rattle.records.specs.Laws.{Bounds, quorum-pos, batch-pos}
+use Rattle.text.specs.Lines.{line}
+use Rattle.text.specs.LineLaws.{line-max}
 use Rattle.run.specs.declared.Run.{Run}
-use Rattle.run.specs.Runs.{stageOf, setsOf}
-use Rattle.run.specs.RunLaws.{formed-of, stage-live}
 use Rattle.run.specs.Steps.{stepOf}
 use Rattle.run.specs.KeepsFormed.{Regular, regular-step}
 use Rattle.log.specs.Cutting.{lengthAt, lengthOf, whole}
-use Rattle.log.specs.Report.{line, refuseWord, holdWord, qualWord, badWord, endWord, signatureLines, closing}
-use Rattle.log.specs.TextLaws.{line-max, setLine-max}
+use Rattle.log.specs.Report.{refuseWord}
 use Rattle.log.specs.Turns.{nextLength, nextRecord, nextRest, linesFrom, lineOf, whole-pos, next-pos, next-max, lines-none, lines-next}
-use Rattle.log.specs.SignatureRows.{signatures-max}
 
 -- ---- a whole record has at least 8 bytes
 
@@ -83,27 +80,3 @@ lines-bound (suc f) position r s h l =
 
 pub lines-max : (position : ℕ) (r : Run) (s : List ℕ) → Regular r → length (linesFrom position r s) ≤ 4 * length s + 32
 lines-max position r s h = lines-bound (length s) position r s h (omega arith)
-
--- ---- the closing
-
--- at stage 5 the lines of at most 512 signatures
-pub signed-max : (r : Run) → length (pick (eqb (stageOf r) 5) (signatureLines r (r .setup .a * batch (r .setup .n) (r .setup .t))) []) ≤ 24576
-signed-max r =
-    let m = r .setup .a * batch (r .setup .n) (r .setup .t) in
-    pick-case (λ (l : List ℕ). length l ≤ 24576) (eqb (stageOf r) 5) (signatureLines r m) []
-    (λ e. omega (arith, signatures-max r m, cells-max (formed-of r (stage-live r 5 (eqb-true _ _ e) (omega arith) (omega arith) .1) .bounds)))
-    (λ e. omega arith)
-
-pub closing-max : (r : Run) → r .setup .n ≤ 32 → length (closing r) ≤ 26000
-unfolding closing
-closing-max r h =
-    let n = r .setup .n in
-    simp length-append
-    (omega (
-      arith,
-      signed-max r,
-      setLine-max holdWord n (setsOf r .hold),
-      setLine-max qualWord n (setsOf r .qual),
-      setLine-max badWord n (setsOf r .bad),
-      line-max endWord (stageOf r ∷ []),
-    ))

@@ -1,9 +1,7 @@
 pub mod Cutting
 pub mod Report
 pub mod Printed
-pub mod Texts
-pub mod TextLaws
 pub mod Turns
-pub mod SignatureRows
+pub mod Endings
 pub mod Lengths
 pub mod Promised

@@ -1,5 +1,5 @@
 -- What is promised of every log and its page. Assumes nothing.
-use mathlib.Core.Path.{_≡_, refl, sym, ap, _∙_}
+use mathlib.Core.Path.{_≡_, sym, ap, _∙_}
 use mathlib.Core.Logic.{⊎-elim}
 use mathlib.Core.List.{List, [], flatten, _++_}
 use Prim.Native.Nat.{ℕ, zero, suc, _≤_}
@@ -8,24 +8,20 @@ use lib.ListN.{length, length-append, length-drop, take-append-drop}
 use lib.Dec.{ltb}
 use borrow.Author.Tests.{ltb-false}
 use Rattle.lists.specs.Tests.{pick-case}
+use Rattle.text.specs.Lines.{line}
+use Rattle.text.specs.LineLaws.{line-max}
 use Rattle.run.specs.declared.Run.{Run}
 use Rattle.run.specs.Runs.{fresh}
 use Rattle.run.specs.Steps.{stepOf, after}
 use Rattle.run.specs.KeepsFormed.{Regular, regular-fresh, regular-after}
+use Rattle.closing.specs.Lengths.{closing-max}
 use Rattle.log.specs.Cutting.{recordsOf, runOf}
-use Rattle.log.specs.Report.{line, longWord, reportOf}
-use Rattle.log.specs.TextLaws.{line-max}
+use Rattle.log.specs.Report.{longWord, reportOf}
+use Rattle.log.specs.Lengths.{empty-or, lines-max}
 use Rattle.log.specs.Turns.{nextLength, nextRecord, nextRest, recordsFrom, next-pos, records-none, records-next, lines-start}
-use Rattle.log.specs.Lengths.{empty-or, lines-max, closing-max}
 use Rattle.log.specs.Printed.{mostReport}
 
--- The run after a log is the run after the list of its records: the first is given to a fresh run, and each later one to the run returned for the
--- one before it. So what is shown of every list of records, as demand 3 is, holds of every log.
-pub run-after : (log : List ℕ) → runOf log ≡ after (recordsOf log)
-unfolding runOf
-run-after log = refl
-
--- such a run has at most 32 parties, and past stage 0 it is well formed
+-- the run after a log has at most 32 parties, and past stage 0 it is well formed
 pub run-regular : (log : List ℕ) → Regular (runOf log)
 unfolding runOf after
 run-regular log = regular-after fresh regular-fresh (recordsOf log)

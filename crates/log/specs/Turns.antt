@@ -2,6 +2,7 @@
 -- log. Assumes nothing.
 use mathlib.Core.Path.{_≡_, refl, ap}
 use mathlib.Core.Bool.{Bool, true, false}
+use mathlib.Core.Logic.{_≢_}
 use mathlib.Core.List.{List, [], _∷_, _++_}
 use Prim.Native.Nat.{ℕ, zero, suc, _+_, _≤_, _<_}
 use native.Mathlib.Omega.{arith}
@@ -10,11 +11,13 @@ use lib.Seq.{take-length, drop-length}
 use lib.Dec.{eqb, leb}
 use borrow.Author.Tests.{leb-true, eq-eqb, ne-eqb}
 use Rattle.lists.specs.Tests.{pick, pick-case, and-left, and-right}
+use Rattle.records.specs.Tags.{Tag, SU, DE, VE, CH, RE, unknown}
+use Rattle.text.specs.Lines.{line}
 use Rattle.run.specs.declared.Run.{Run}
 use Rattle.run.specs.Runs.{fresh}
 use Rattle.run.specs.Steps.{stepOf, afterFrom, after}
-use Rattle.log.specs.Cutting.{lengthOf, whole, cutFrom, recordsOf, runOf}
-use Rattle.log.specs.Report.{line, refuseWord, refusalLines}
+use Rattle.log.specs.Cutting.{lengthAt, lengthOf, whole, cutFrom, recordsOf, runOf}
+use Rattle.log.specs.Report.{refuseWord, refusalLines}
 
 -- the length of the next record: by its tag where it is whole, else all that is left
 unfoldable pub nextLength : Run → List ℕ → ℕ
@@ -38,6 +41,16 @@ unfoldable pub runFrom : Run → List ℕ → Run
 runFrom r s = afterFrom r (recordsFrom r s)
 
 -- ---- the length of a record
+
+-- before a setup only SU has a length
+pub none-yet : (k : Tag) (r : Run) (s : List ℕ) → k ≢ SU → r .stage ≡ 0 → lengthAt k r s ≡ 0
+unfolding lengthAt
+none-yet SU r s d e = absurd (d refl)
+none-yet DE r s d e = rw (eq-eqb _ _ e)
+none-yet VE r s d e = rw (eq-eqb _ _ e)
+none-yet CH r s d e = rw (eq-eqb _ _ e)
+none-yet RE r s d e = rw (eq-eqb _ _ e)
+none-yet unknown r s d e = refl
 
 pub whole-pos : (r : Run) (s : List ℕ) → whole r s ≡ true → 1 ≤ lengthOf r s
 unfolding whole
@@ -70,7 +83,7 @@ cut-more (suc f) zero r s p q = rw (eq-eqb (length s) 0 (omega arith))
 cut-more (suc f) (suc g) r s p q =
     let n = lengthOf r s in
     ap (λ (l : List (List ℕ)). pick (eqb (length s) 0) [] l)
-    (pick-same (whole r s) (s ∷ [])
+    (pick-same (whole r s) _
     (λ e. ap (λ (l : List (List ℕ)). take n s ∷ l)
     (cut-more f g (stepOf r (take n s) .run) (drop n s) (omega (arith, length-drop n s, whole-pos r s e)) (omega (arith, length-drop n s, whole-pos r s e)))))
 

@@ -99,7 +99,7 @@ fn setup(s: &[u8], at: usize, list: &mut [u32], out: &mut [u8]) -> usize
         return at;
     }
     load(s, at + 9, list);
-    let number = writers::write_setup(
+    let number = dealer::write_setup(
         records::byte(s, at),
         records::byte(s, at + 1),
         records::byte(s, at + 2),
@@ -124,7 +124,7 @@ fn dealing(s: &[u8], at: usize, list: &mut [u32], out: &mut [u8]) -> usize
         return at;
     }
     load(s, at + 6, list);
-    let number = writers::write_dealing(
+    let number = dealer::write_dealing(
         records::byte(s, at),
         records::byte(s, at + 1),
         records::byte(s, at + 2),

@@ -1,4 +1,4 @@
--- An honest party's numbers are right: a dealing's shares are valid, and a response number passes. Assumes nothing.
+-- An honest holder's response numbers pass. Assumes nothing.
 use mathlib.Core.Path.{_≡_, refl, ap, ap₂, _∙_}
 use mathlib.Core.Bool.{Bool, true, false}
 use mathlib.Core.List.{List}
@@ -13,17 +13,9 @@ use Rattle.field.specs.declared.Element.{Element}
 use Rattle.field.specs.Definitions.{scalar, element, generator, plus, times, product, raise, powered}
 use Rattle.field.specs.ScalarLaws.{times-comm}
 use Rattle.field.specs.ElementLaws.{generator-element, raise-element, raise-zero, raise-power, raise-plus, raise-times}
-use Rattle.interpolation.specs.Definitions.{party, committedPoint}
-use Rattle.interpolation.specs.Laws.{raise-scalarAt}
-use Rattle.records.specs.Parameters.{quorum}
+use Rattle.interpolation.specs.Definitions.{party}
 use Rattle.protocol.specs.Transcript.{Transcript, dealingAt, validShare, coefficient, keyAt, combinedAt, challengeAt, responseAt, passes}
-use Rattle.writers.specs.Writers.{shareFor, combinedShare}
-
--- 4^(share for j) is what the committed values come to at j
-pub share-valid : (t a : ℕ) (values : List ℕ) (j : ℕ) → validShare t a (λ v. raise generator (scalar (getD values v 0))) j (shareFor t a values j) ≡ true
-unfolding validShare dealingAt shareFor
-share-valid t a values j =
-    eq-eqb _ _ (ap (λ (v : Element). v .0) (raise-scalarAt generator generator-element (committedPoint a) (quorum t a) (λ v. scalar (getD values v 0)) (party j)))
+use Rattle.writers.specs.Writers.{combinedShare}
 
 valid-is : (t a : ℕ) (values : ℕ → Element) (j : ℕ) (share : Scalar) → validShare t a values j share ≡ true → raise generator share ≡ dealingAt t a values (party j)
 unfolding validShare

@@ -1,5 +1,3 @@
-pub mod Bytes
-pub mod ByteLaws
 pub mod Writers
 pub mod WriterLaws
 pub mod Honest

@@ -1,58 +1,22 @@
--- What an honest party's records are, and when a writer refuses (document 01, "The writers make ..").
-use Prim.Native.Nat.{ℕ, _+_, _-_}
+-- What an honest holder's VE and RE are, and when their writers refuse (document 01, "The writers make ..").
+use Prim.Native.Nat.{ℕ, _+_}
 use mathlib.Core.Bool.{Bool, not, _&&_, _||_}
-use mathlib.Core.List.{List, _∷_, _++_}
+use mathlib.Core.List.{List, _∷_}
 use lib.ListN.{length, getD}
 use lib.Dec.{eqb}
 use Rattle.algebra.specs.Fold.{fold}
 use Rattle.lists.specs.Tests.{pick, allTo, require}
 use Rattle.sets.specs.Masks.{has, maskOf}
 use Rattle.field.specs.declared.Scalar.{Scalar}
-use Rattle.field.specs.Definitions.{scalar, generator, isScalar, plus, times, raise}
-use Rattle.interpolation.specs.Definitions.{party, committedPoint, scalarAt}
-use Rattle.records.specs.Parameters.{inBounds, quorum, batch, isParty}
-use Rattle.records.specs.Tags.{setupLength, dealingLength, complaintLength, responseLength}
+use Rattle.field.specs.Definitions.{scalar, isScalar, plus, times}
+use Rattle.interpolation.specs.Definitions.{party}
+use Rattle.records.specs.Parameters.{batch, isParty}
+use Rattle.records.specs.Tags.{complaintLength, responseLength}
+use Rattle.encoding.specs.Bytes.{four, fours}
 use Rattle.protocol.specs.Transcript.{coefficient, challengeAt}
 use Rattle.run.specs.declared.Run.{Run}
 use Rattle.run.specs.Runs.{stageOf, transcriptOf}
 use Rattle.run.specs.Steps.{mayBlame}
-use Rattle.writers.specs.Bytes.{four, fours}
-
--- 4^x, as the number that is written
-abbrev pub powerOfFour : ℕ → ℕ
-powerOfFour x = raise generator (scalar x) .0
-
--- ---- SU, from n, t, a, s and F(1) to F(t)
-
-unfoldable pub setupRefused : ℕ → ℕ → ℕ → ℕ → List ℕ → ℕ → ℕ
-setupRefused n t a s shares room =
-    require (inBounds n t a) 4
-    (require (eqb (length shares) t) 10
-    (require (isScalar s && allTo t (λ j. isScalar (getD shares j 0))) 6
-    (require (eqb room (setupLength t)) 9 0)))
-
-unfoldable pub setupBytes : ℕ → ℕ → ℕ → ℕ → List ℕ → List ℕ
-setupBytes n t a s shares =
-    83 ∷ 85 ∷ n ∷ t ∷ a ∷ 0 ∷ (four (powerOfFour s) ++ fours t (λ j. powerOfFour (getD shares j 0)))
-
--- ---- DE, from n, t, a, i and the values of H_i at its committed points
-
-unfoldable pub dealingRefused : ℕ → ℕ → ℕ → ℕ → List ℕ → ℕ → ℕ
-dealingRefused n t a i values room =
-    require (inBounds n t a) 4
-    (require (isParty n i) 5
-    (require (eqb (length values) (quorum t a)) 10
-    (require (allTo (quorum t a) (λ v. isScalar (getD values v 0))) 6
-    (require (eqb room (dealingLength n t a)) 9 0))))
-
--- H_i(j), from its values at the committed points
-unfoldable pub shareFor : ℕ → ℕ → List ℕ → ℕ → Scalar
-shareFor t a values j = scalarAt (committedPoint a) (quorum t a) (λ v. scalar (getD values v 0)) (party j)
-
-unfoldable pub dealingBytes : ℕ → ℕ → ℕ → ℕ → List ℕ → List ℕ
-dealingBytes n t a i values =
-    68 ∷ 69 ∷ i ∷ 0
-    ∷ (fours (quorum t a) (λ v. powerOfFour (getD values v 0)) ++ fours n (λ j. shareFor t a values (j + 1) .0))
 
 -- ---- VE, from a run and j
 

@@ -1,4 +1,4 @@
-// The writers: an honest party's records, each written whole into a buffer that the caller lends, or refused with the buffer as it was.
+// The writers of VE and RE, which a holder makes from a run: each record is written whole into a buffer that the caller lends, or refused with the buffer as it was.
 ghost use mathlib.Core.Path.{_≡_};
 ghost use mathlib.Core.Bool.{true, not, _||_};
 ghost use Prim.Native.Nat.{_+_, _*_, _≤_};
@@ -7,161 +7,15 @@ ghost use lib.Dec.{eqb};
 ghost use lib.Seq.{sets};
 ghost use Rattle.lists.specs.Tests.{pick, allTo};
 ghost use Rattle.sets.specs.Masks.{has, maskOf};
-ghost use Rattle.field.specs.Definitions.{scalar, isScalar};
-ghost use Rattle.records.specs.Parameters.{mostParties, inBounds, quorum, batch};
-ghost use Rattle.protocol.specs.Arrays.{scalars};
+ghost use Rattle.field.specs.Definitions.{isScalar};
+ghost use Rattle.records.specs.Parameters.{mostParties, batch};
+ghost use Rattle.encoding.specs.Bytes.{fours};
 ghost use Rattle.run.specs.Runs.{wellFormed};
 ghost use Rattle.run.specs.Steps.{mayBlame};
-ghost use Rattle.writers.specs.Bytes.{four, fours};
 ghost use Rattle.writers.specs.WriterLaws.{sharesRefused};
-ghost use Rattle.writers.specs.Writers.{powerOfFour, setupRefused, setupBytes, dealingRefused, shareFor, dealingBytes, complaintRefused, complaintBytes, responseRefused, combinedShare, responseFor, responseBytes};
-use field::Element;
+ghost use Rattle.writers.specs.Writers.{complaintRefused, complaintBytes, responseRefused, combinedShare, responseFor, responseBytes};
 use field::Scalar;
 use run::Run;
-
-// A number as four bytes, high byte first, at a place with room for them.
-fn put(out: &mut [u8], at: usize, x: u32)
-    requires { ⌜ at + 4 ≤ length (now out) ⌝ }
-    ensures { λ _. ⌜ now (out .exit) ≡ sets (now (out .entry)) at (four x) ⌝ }
-{
-    out[at] = (x / 16777216 % 256) as u8;
-    out[at + 1] = (x / 65536 % 256) as u8;
-    out[at + 2] = (x / 256 % 256) as u8;
-    out[at + 3] = (x % 256) as u8;
-}
-
-// 4^x for each x of a list.
-fn put_powers(out: &mut [u8], at: usize, list: &[u32])
-    requires { ⌜ at + 4 * length (now list) ≤ length (now out) ⌝ }
-    ensures { λ _. ⌜ now (out .exit) ≡ sets (now (out .entry)) at (fours (length (now (list .entry))) (λ i. powerOfFour (getD (now (list .entry)) i 0))) ⌝ }
-{
-    let count = list.len();
-    for i in 0..count {
-        let power = Element::GENERATOR.pow(Scalar(list[i]));
-        put(out, at + 4 * i, power.0);
-    }
-}
-
-// Whether every number of a list is a scalar.
-fn all_scalars(list: &[u32]) -> bool
-    ensures { λ r. ⌜ r ≡ allTo (length (now (list .entry))) (λ i. isScalar (getD (now (list .entry)) i 0)) ⌝ }
-{
-    let count = list.len();
-    for i in 0..count {
-        if !Scalar::accepts(list[i]) {
-            return false;
-        }
-    }
-    true
-}
-
-// The numbers of a list as scalars.
-fn load_scalars(list: &[u32]) -> [Scalar; 64]
-    requires { ⌜ length (now list) ≤ 64 ⌝ }
-    ensures { λ r. ⌜ r ≡ scalars (length (now (list .entry))) (λ i. scalar (getD (now (list .entry)) i 0)) ⌝ }
-{
-    let count = list.len();
-    let mut values = [Scalar::ZERO; 64];
-    for i in 0..count {
-        values[i] = Scalar(list[i]);
-    }
-    values
-}
-
-fn setup_refused(n: u8, t: u8, a: u8, s: u32, shares: &[u32], room: usize) -> u8
-    ensures { λ r. ⌜ r ≡ setupRefused n t a s (now (shares .entry)) room ⌝ }
-{
-    if !records::in_bounds(n, t, a) {
-        return 4;
-    }
-    if shares.len() != t as usize {
-        return 10;
-    }
-    if !Scalar::accepts(s) {
-        return 6;
-    }
-    if !all_scalars(shares) {
-        return 6;
-    }
-    if room != records::setup_length(t) {
-        return 9;
-    }
-    0
-}
-
-// SU, from n, t, a, s and F(1) to F(t).
-pub fn write_setup(n: u8, t: u8, a: u8, s: u32, shares: &[u32], out: &mut [u8]) -> u8
-    ensures number { λ r. ⌜ r ≡ setupRefused n t a s (now (shares .entry)) (length (now (out .entry))) ⌝ }
-    ensures bytes { λ r. ⌜ now (out .exit) ≡ pick (eqb r 0) (setupBytes n t a s (now (shares .entry))) (now (out .entry)) ⌝ }
-{
-    let number = setup_refused(n, t, a, s, shares, out.len());
-    if number != 0 {
-        return number;
-    }
-    out[0] = b'S';
-    out[1] = b'U';
-    out[2] = n;
-    out[3] = t;
-    out[4] = a;
-    out[5] = 0;
-    let key = Element::GENERATOR.pow(Scalar(s));
-    put(out, 6, key.0);
-    put_powers(out, 10, shares);
-    0
-}
-
-fn dealing_refused(n: u8, t: u8, a: u8, i: u8, values: &[u32], room: usize) -> u8
-    ensures { λ r. ⌜ r ≡ dealingRefused n t a i (now (values .entry)) room ⌝ }
-{
-    if !records::in_bounds(n, t, a) {
-        return 4;
-    }
-    if !records::is_party(n, i) {
-        return 5;
-    }
-    if values.len() != records::quorum(t, a) as usize {
-        return 10;
-    }
-    if !all_scalars(values) {
-        return 6;
-    }
-    if room != records::dealing_length(n, t, a) {
-        return 9;
-    }
-    0
-}
-
-// The shares of a dealing for 1 to n.
-fn put_shares(out: &mut [u8], at: usize, n: u8, t: u8, a: u8, values: &[u32])
-    requires { ⌜ (inBounds n t a ≡ true) × (length (now values) ≡ quorum t a) × (at + 4 * n ≤ length (now out)) ⌝ }
-    ensures { λ _. ⌜ now (out .exit) ≡ sets (now (out .entry)) at (fours n (λ j. shareFor t a (now (values .entry)) (j + 1) .0)) ⌝ }
-{
-    let list = load_scalars(values);
-    let points = interpolation::committed_points(a, records::quorum(t, a) as u8);
-    for j in 0..n {
-        let weights = points.weights(interpolation::point(j + 1, 0));
-        let share = weights.sum(list);
-        put(out, at + 4 * j as usize, share.0);
-    }
-}
-
-// DE, from n, t, a, i and the values of H_i at its committed points.
-pub fn write_dealing(n: u8, t: u8, a: u8, i: u8, values: &[u32], out: &mut [u8]) -> u8
-    ensures number { λ r. ⌜ r ≡ dealingRefused n t a i (now (values .entry)) (length (now (out .entry))) ⌝ }
-    ensures bytes { λ r. ⌜ now (out .exit) ≡ pick (eqb r 0) (dealingBytes n t a i (now (values .entry))) (now (out .entry)) ⌝ }
-{
-    let number = dealing_refused(n, t, a, i, values, out.len());
-    if number != 0 {
-        return number;
-    }
-    out[0] = b'D';
-    out[1] = b'E';
-    out[2] = i;
-    out[3] = 0;
-    put_powers(out, 4, values);
-    put_shares(out, 4 + 4 * values.len(), n, t, a, values);
-    0
-}
 
 // The accepted dealers whose share for j is not valid.
 fn wrong_dealers(run: Run, j: u8) -> u64
@@ -211,7 +65,7 @@ pub fn write_complaint(run: Run, j: u8, out: &mut [u8]) -> u8
     out[1] = b'E';
     out[2] = j;
     out[3] = 0;
-    put(out, 4, (mask % 4294967296) as u32);
+    encoding::put(out, 4, (mask % 4294967296) as u32);
     0
 }
 
@@ -304,7 +158,7 @@ fn put_responses(out: &mut [u8], run: Run, j: u8, key: u32, shares: &[u32])
         let share = combined_share(qual, n, shares, u + 1);
         let challenge = weights.sum(protocol::challenge_values(challenges, a, u + 1));
         let number = share.add(challenge.mul(Scalar(key)));
-        put(out, 4 + 4 * u as usize, number.0);
+        encoding::put(out, 4 + 4 * u as usize, number.0);
     }
 }
 

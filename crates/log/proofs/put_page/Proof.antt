@@ -8,11 +8,11 @@ use borrow.Author.Needs.{needs}
 use borrow.Author.Tests.{eq-eqb, ne-eqb}
 use lib.ListN.{length, take, drop, length-drop}
 use lib.Seq.{take-all, length-take-le}
+use Rattle.text.specs.Texts.{Wrote, wrote-none, wrote-append}
 use Rattle.run.specs.declared.Reply.{Reply}
 use Rattle.run.specs.declared.Run.{Run}
 use Rattle.run.specs.Steps.{stepOf, untaken}
 use Rattle.run.specs.Refused.{refusal-keeps, untaken-refused}
-use Rattle.log.specs.Texts.{Wrote, wrote-none, wrote-append}
 use Rattle.log.specs.Turns.{nextLength, nextRecord, lineOf, next-pos, next-max}
 use Rattle.log.proofs.Reading.{Reading, reading-start, reading-place, reading-length, reading-next, reading-lines, reading-run}
 use Rattle.log.proofs.put_page.Statement.{statement}

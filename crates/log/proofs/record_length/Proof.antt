@@ -1,14 +1,13 @@
 -- `record_length` meets its contract: each way of the code is one tag of the definition. Assumes nothing.
 use mathlib.Core.Path.{_≡_, refl, sym, ap, _∙_}
-use mathlib.Core.List.{List}
 use Prim.Native.Nat.{ℕ}
 use borrow.Author.Needs.{needs}
-use borrow.Author.Tests.{le-leb, lt-leb, eq-eqb, ne-eqb}
+use borrow.Author.Tests.{le-leb, lt-leb, ne-eqb}
 use lib.Dec.{eqb}
 use Rattle.lists.specs.Tests.{pick}
 use Rattle.records.specs.Tags.{Tag, SU, DE, VE, CH, RE, unknown, code, tagOf}
-use Rattle.run.specs.declared.Run.{Run}
 use Rattle.log.specs.Cutting.{lengthAt, lengthOf}
+use Rattle.log.specs.Turns.{none-yet}
 use Rattle.log.proofs.record_length.Statement.{statement}
 use Rattle.log.proofs.record_length.Tie as tie
 
@@ -34,17 +33,6 @@ tag-none : {k : ℕ} (g : Tag) → k ≡ code g → (k ≡ 1 → ⊥) → (k ≡
 unfolding ofCode
 tag-none {k} g p d1 d2 d3 d4 d5 =
     sym (ofCode-code g) ∙ ap ofCode (sym p) ∙ simp (ne-eqb k 1 d1, ne-eqb k 2 d2, ne-eqb k 3 d3, ne-eqb k 4 d4, ne-eqb k 5 d5)
-
-module _ (r : Run) (s : List ℕ) where
-  -- before a setup only SU has a length
-  none-yet : (g : Tag) → (code g ≡ 1 → ⊥) → r .stage ≡ 0 → lengthAt g r s ≡ 0
-  unfolding lengthAt
-  none-yet SU d e = absurd (d refl)
-  none-yet DE d e = rw (eq-eqb _ _ e)
-  none-yet VE d e = rw (eq-eqb _ _ e)
-  none-yet CH d e = rw (eq-eqb _ _ e)
-  none-yet RE d e = rw (eq-eqb _ _ e)
-  none-yet unknown d e = refl
 
 tag-requires : tie.Need-tag-requires
 tag-requires c κs = search needs
@@ -78,7 +66,7 @@ unfolding lengthOf
 returns-3 c =
     let t = c .before .before in
     let a = t .before .before .args in
-    sym (none-yet (a .run) (a .rest .now) (tagOf (a .rest .now)) (λ e. c .before .if1 .left (t .tag .ensures ∙ e)) (c .if3 .taken))
+    sym (none-yet (tagOf (a .rest .now)) (a .run) (a .rest .now) (λ e. c .before .if1 .left (t .tag .ensures ∙ ap code e)) (c .if3 .taken))
 
 dealing-length-requires : tie.Need-dealing-length-requires
 dealing-length-requires c κs = search needs

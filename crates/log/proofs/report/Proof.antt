@@ -3,7 +3,8 @@ use mathlib.Core.Path.{refl, _∙_}
 use native.Mathlib.Nat.{zero-add}
 use borrow.Author.Needs.{needs}
 use borrow.Author.Tests.{lt-ltb, le-ltb}
-use Rattle.log.specs.Report.{fields, line, reportOf}
+use Rattle.text.specs.Lines.{fields, line}
+use Rattle.log.specs.Report.{reportOf}
 use Rattle.log.specs.Printed.{printed}
 use Rattle.log.proofs.report.Statement.{statement}
 use Rattle.log.proofs.report.Tie as tie

@@ -14,16 +14,16 @@ use Rattle.interpolation.specs.declared.Row.{Row}
 use Rattle.interpolation.specs.Definitions.{party, slot}
 use Rattle.interpolation.specs.Rows.{listed, weightsOf, sumOf}
 use Rattle.records.specs.Parameters.{batch}
+use Rattle.encoding.specs.Bytes.{fours}
+use Rattle.encoding.specs.Stores.{Put, put-none, put-next}
 use Rattle.protocol.specs.Transcript.{challengeAt}
 use Rattle.protocol.specs.Arrays.{challengeIn, scalars}
 use Rattle.protocol.specs.ArrayLaws.{scalars-interpolated}
 use Rattle.run.specs.declared.Run.{Run}
 use Rattle.run.specs.Runs.{wellFormed, transcriptOf, qualOf}
 use Rattle.run.specs.RunLaws.{formed-of}
-use Rattle.writers.specs.Bytes.{fours}
 use Rattle.writers.specs.Writers.{combinedShare, responseFor}
 use Rattle.writers.specs.WriterLaws.{qual-is}
-use Rattle.writers.proofs.Stores.{Put, put-none, put-next}
 use Rattle.writers.proofs.put_responses.Statement.{statement}
 use Rattle.writers.proofs.put_responses.Tie as tie
 

@@ -4,9 +4,9 @@ use Prim.Native.Nat.{_+_, _-_}
 use native.Mathlib.Omega.{arith}
 use borrow.Author.Needs.{needs}
 use lib.ListN.{getD}
+use Rattle.lists.specs.Calls.{Asked, asked-none, asked-more, asked-fails, asked-all}
 use Rattle.sets.specs.Masks.{has}
 use Rattle.field.specs.Definitions.{isScalar}
-use Rattle.lists.specs.Calls.{Asked, asked-none, asked-more, asked-fails, asked-all}
 use Rattle.writers.proofs.shares_in_range.Statement.{statement}
 use Rattle.writers.proofs.shares_in_range.Tie as tie
 

@@ -8,10 +8,10 @@ use borrow.Author.Tests.{eq-eqb, ne-eqb}
 use lib.ListN.{getD}
 use lib.Dec.{eqb}
 use Rattle.lists.specs.Tests.{allTo, require, require-true, require-false}
+use Rattle.lists.specs.Calls.{holds, fails, equals, differs}
 use Rattle.sets.specs.Masks.{has}
 use Rattle.field.specs.Definitions.{isScalar}
 use Rattle.records.specs.Tags.{responseLength}
-use Rattle.lists.specs.Calls.{holds, fails, equals, differs}
 use Rattle.run.specs.declared.Run.{Run}
 use Rattle.run.specs.Runs.{qualOf, transcriptOf}
 use Rattle.writers.specs.WriterLaws.{sharesRefused, qual-is}

@@ -8,12 +8,12 @@ use borrow.Author.Tests.{ne-eqb}
 use lib.ListN.{length, length-set}
 use Rattle.sets.specs.Masks.{maskOf}
 use Rattle.records.specs.Tags.{complaintLength}
+use Rattle.encoding.specs.Bytes.{four}
+use Rattle.encoding.specs.Stores.{sets-whole}
 use Rattle.run.specs.Steps.{mayBlame}
 use Rattle.run.specs.RunLaws.{formed-of}
-use Rattle.writers.specs.Bytes.{four}
 use Rattle.writers.specs.Writers.{complaintBytes}
 use Rattle.writers.specs.WriterLaws.{ComplaintFits, complaint-fits, mask-lt}
-use Rattle.writers.proofs.Stores.{sets-whole}
 use Rattle.writers.proofs.write_complaint.Statement.{statement}
 use Rattle.writers.proofs.write_complaint.Tie as tie
 

@@ -8,11 +8,11 @@ use borrow.Author.Tests.{ne-eqb}
 use lib.ListN.{length, length-set}
 use Rattle.records.specs.Parameters.{batch}
 use Rattle.records.specs.Tags.{responseLength}
-use Rattle.writers.specs.Bytes.{fours}
-use Rattle.writers.specs.ByteLaws.{length-fours}
+use Rattle.encoding.specs.Bytes.{fours}
+use Rattle.encoding.specs.ByteLaws.{length-fours}
+use Rattle.encoding.specs.Stores.{sets-whole}
 use Rattle.writers.specs.Writers.{responseFor, responseBytes}
 use Rattle.writers.specs.WriterLaws.{ResponseFits, response-fits}
-use Rattle.writers.proofs.Stores.{sets-whole}
 use Rattle.writers.proofs.write_response.Statement.{statement}
 use Rattle.writers.proofs.write_response.Tie as tie
 

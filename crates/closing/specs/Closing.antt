@@ -1,0 +1,44 @@
+-- What a page says of the run after its log (document 01, "The printed page"), as bytes.
+use Prim.Native.Nat.{ℕ, zero, suc, _+_, _*_, _/_, _%_}
+use mathlib.Core.List.{List, [], _∷_, _++_}
+use lib.Dec.{eqb}
+use Rattle.lists.specs.Tests.{pick}
+use Rattle.records.specs.Parameters.{batch}
+use Rattle.text.specs.Lines.{line, setLine}
+use Rattle.protocol.specs.Transcript.{nonce}
+use Rattle.run.specs.declared.Run.{Run}
+use Rattle.run.specs.Runs.{stageOf, setsOf, transcriptOf, kept}
+
+-- the words hold, qual, bad, sig, end
+abbrev pub holdWord : List ℕ
+holdWord = 104 ∷ 111 ∷ 108 ∷ 100 ∷ []
+
+abbrev pub qualWord : List ℕ
+qualWord = 113 ∷ 117 ∷ 97 ∷ 108 ∷ []
+
+abbrev pub badWord : List ℕ
+badWord = 98 ∷ 97 ∷ 100 ∷ []
+
+abbrev pub sigWord : List ℕ
+sigWord = 115 ∷ 105 ∷ 103 ∷ []
+
+abbrev pub endWord : List ℕ
+endWord = 101 ∷ 110 ∷ 100 ∷ []
+
+-- u, k, R(u,k), φ(u,k)
+unfoldable pub signatureLine : Run → ℕ → ℕ → List ℕ
+signatureLine r u k = line sigWord (u ∷ k ∷ nonce (transcriptOf r) u k .0 ∷ kept r u k .0 ∷ [])
+
+-- the signatures numbered below m, u outer
+unfoldable pub signatureLines : Run → ℕ → List ℕ
+signatureLines r zero = []
+signatureLines r (suc x) = signatureLines r x ++ signatureLine r (x / r .setup .a + 1) (x % r .setup .a + 1)
+
+-- the sets, at stage 5 every signature, and the stage
+unfoldable pub closing : Run → List ℕ
+closing r =
+    setLine holdWord (r .setup .n) (setsOf r .hold)
+    ++ (setLine qualWord (r .setup .n) (setsOf r .qual)
+    ++ (setLine badWord (r .setup .n) (setsOf r .bad)
+    ++ (pick (eqb (stageOf r) 5) (signatureLines r (r .setup .a * batch (r .setup .n) (r .setup .t))) []
+    ++ line endWord (stageOf r ∷ []))))

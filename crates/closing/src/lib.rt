@@ -1,0 +1,87 @@
+// What a page says of the run after its log: the sets, the signatures and the stage, into a buffer that the caller lends.
+ghost use mathlib.Core.Path.{_≡_};
+ghost use mathlib.Core.Bool.{true};
+ghost use mathlib.Core.List.{[], _∷_};
+ghost use Prim.Native.Nat.{_+_, _*_, _-_, _≤_, _<_};
+ghost use lib.ListN.{length};
+ghost use Rattle.records.specs.Parameters.{mostParties, batch};
+ghost use Rattle.text.specs.Lines.{line};
+ghost use Rattle.text.specs.Texts.{Wrote};
+ghost use Rattle.protocol.specs.Arrays.{powersAt};
+ghost use Rattle.run.specs.Runs.{wellFormed};
+ghost use Rattle.closing.specs.Closing.{sigWord, signatureLines, closing};
+ghost use Rattle.closing.specs.SignatureRows.{rowLines};
+use field::Element;
+use field::Scalar;
+use run::Run;
+
+// The line of a signature.
+fn put_signature(
+    out: &mut [u8],
+    at: usize,
+    u: u8,
+    k: u8,
+    nonce: Element,
+    signature: Scalar,
+) -> usize
+    requires { ⌜ at + 48 ≤ length (now out) ⌝ }
+    ensures { λ r. ⌜ Wrote (now (out .entry)) (now (out .exit)) at r (line sigWord (u ∷ k ∷ nonce .0 ∷ signature .0 ∷ [])) ⌝ }
+{
+    let numbers = [u as u32, k as u32, nonce.0, signature.0];
+    text::put_line(out, at, b"sig", &numbers)
+}
+
+// The signature lines of one u, from the powers of the committed values for it: they are combined, and give R(u,k) at each slot k.
+fn put_row(out: &mut [u8], at: usize, run: Run, powers: [Element; 1024], u: u8) -> usize
+    requires { ⌜ (wellFormed run ≡ true) × (0 < u) × (u ≤ batch (run .setup .n) (run .setup .t)) × (powers ≡ powersAt (run .setup .n) (run .dealings .commitments) (u - 1)) × (at + 48 * run .setup .a ≤ length (now out)) ⌝ }
+    ensures { λ r. ⌜ Wrote (now (out .entry)) (now (out .exit)) at r (rowLines run u (run .setup .a)) ⌝ }
+{
+    let a = run.setup.a;
+    let quorum = records::quorum(run.setup.t, a) as u8;
+    let values = protocol::combined_values(powers, run.qual(), run.setup.n, quorum);
+    let basis = interpolation::committed_points(a, quorum).basis();
+    let first = (u - 1) as usize * a as usize;
+    let mut next = at;
+    for k in 0..a {
+        let nonce = basis
+            .weights(interpolation::point(1, k + 1))
+            .product(values);
+        let signature = run.signatures[first + k as usize];
+        next = put_signature(out, next, u, k + 1, nonce, signature);
+    }
+    next
+}
+
+// Every signature line.
+fn put_signatures(out: &mut [u8], at: usize, run: Run) -> usize
+    requires { ⌜ (wellFormed run ≡ true) × (at + 24576 ≤ length (now out)) ⌝ }
+    ensures { λ r. ⌜ Wrote (now (out .entry)) (now (out .exit)) at r (signatureLines run (run .setup .a * batch (run .setup .n) (run .setup .t))) ⌝ }
+{
+    let count = records::batch(run.setup.n, run.setup.t);
+    let mut powers = run.dealings.commitments;
+    let mut next = at;
+    for u in 0..count {
+        next = put_row(out, next, run, powers, u + 1);
+        let raised = protocol::raised(powers, run.setup.n);
+        powers = raised;
+    }
+    next
+}
+
+// The sets, at stage 5 every signature, and the stage.
+pub fn put_closing(out: &mut [u8], at: usize, run: Run) -> usize
+    requires { ⌜ (run .setup .n ≤ mostParties) × (at + 26000 ≤ length (now out)) ⌝ }
+    ensures { λ r. ⌜ Wrote (now (out .entry)) (now (out .exit)) at r (closing run) ⌝ }
+{
+    let n = run.setup.n;
+    let stage = run.stage_of();
+    let fixed = run.sets();
+    let hold = text::put_set(out, at, b"hold", n, fixed.hold);
+    let qual = text::put_set(out, hold, b"qual", n, fixed.qual);
+    let mut next = text::put_set(out, qual, b"bad", n, fixed.bad);
+    if stage == 5 {
+        next = put_signatures(out, next, run);
+    }
+    let numbers = [stage as u32];
+    text::put_line(out, next, b"end", &numbers)
+}

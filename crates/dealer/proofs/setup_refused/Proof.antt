@@ -1,0 +1,90 @@
+-- `setup_refused` meets its contract: the code asks what the definition asks, in its order. Assumes nothing.
+use mathlib.Core.Path.{_≡_, sym, _∙_}
+use borrow.Author.Needs.{needs}
+use borrow.Author.Tests.{eq-eqb, ne-eqb}
+use lib.Dec.{eqb}
+use Rattle.lists.specs.Tests.{require, require-true, require-false}
+use Rattle.lists.specs.Calls.{holds, fails, equals, differs}
+use Rattle.records.specs.Tags.{setupLength}
+use Rattle.dealer.specs.Dealt.{setupRefused}
+use Rattle.dealer.proofs.Calls.{counted}
+use Rattle.dealer.proofs.setup_refused.Statement.{statement}
+use Rattle.dealer.proofs.setup_refused.Tie as tie
+
+in-bounds-requires : tie.Need-in-bounds-requires
+in-bounds-requires c κs = search needs
+
+returns : tie.Need-returns
+unfolding setupRefused require
+returns c = rw (fails (c .before .in-bounds .ensures) (c .if1 .taken))
+
+returns-2 : tie.Need-returns-2
+unfolding setupRefused require
+returns-2 c = rw (holds (c .before .before .in-bounds .ensures) (c .before .if1 .left), ne-eqb _ _ (c .if2 .taken))
+
+accepts-requires : tie.Need-accepts-requires
+accepts-requires c κs = search needs
+
+returns-3 : tie.Need-returns-3
+unfolding setupRefused require
+returns-3 c =
+    let count = c .before .before in
+    rw (
+      holds (count .before .before .in-bounds .ensures) (count .before .if1 .left),
+      eq-eqb _ _ (count .if2 .left),
+      fails (c .before .accepts .ensures) (c .if3 .taken),
+    )
+
+all-scalars-requires : tie.Need-all-scalars-requires
+all-scalars-requires c κs = search needs
+
+returns-4 : tie.Need-returns-4
+unfolding setupRefused require
+returns-4 c =
+    let key = c .before .before in
+    let count = key .before .before in
+    rw (
+      holds (count .before .before .in-bounds .ensures) (count .before .if1 .left),
+      eq-eqb _ _ (count .if2 .left),
+      holds (key .before .accepts .ensures) (key .if3 .left),
+      counted _ (count .if2 .left) (fails (c .before .all-scalars .ensures) (c .if4 .taken)),
+    )
+
+setup-length-requires : tie.Need-setup-length-requires
+setup-length-requires c κs = search needs
+
+-- all but the room is settled
+settled : (c : tie.After-setup-length) → let a = c .before .before .before .before .before .before .before .before .before .args in
+    require (eqb (a .room) (setupLength (a .t))) 9 0 ≡ setupRefused (a .n) (a .t) (a .a) (a .s) (a .shares .now) (a .room)
+unfolding setupRefused require
+settled c =
+    let scalars = c .before in
+    let key = scalars .before .before in
+    let count = key .before .before in
+    rw (
+      holds (count .before .before .in-bounds .ensures) (count .before .if1 .left),
+      eq-eqb _ _ (count .if2 .left),
+      holds (key .before .accepts .ensures) (key .if3 .left),
+      counted _ (count .if2 .left) (holds (scalars .before .all-scalars .ensures) (scalars .if4 .left)),
+    )
+
+returns-5 : tie.Need-returns-5
+returns-5 c = sym (require-false _ 9 0 (differs (c .before .setup-length .ensures) (c .if5 .taken))) ∙ settled (c .before)
+
+returns-6 : tie.Need-returns-6
+returns-6 c = sym (require-true _ 9 0 (equals (c .before .setup-length .ensures) (c .if5 .left))) ∙ settled (c .before)
+
+pub setup-refused-spec : {M : Type 1} → statement M
+setup-refused-spec =
+    tie.close
+    (tie.spec
+    in-bounds-requires
+    returns
+    returns-2
+    accepts-requires
+    returns-3
+    all-scalars-requires
+    returns-4
+    setup-length-requires
+    returns-5
+    returns-6)

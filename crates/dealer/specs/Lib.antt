@@ -1,0 +1,3 @@
+pub mod Dealt
+pub mod Fits
+pub mod Valid

@@ -1,0 +1,31 @@
+// Numbers as bytes, four each and the high byte first, into a buffer that the caller lends, at a place with room for them.
+ghost use mathlib.Core.Path.{_≡_};
+ghost use Prim.Native.Nat.{_+_, _*_, _≤_};
+ghost use lib.ListN.{length, getD};
+ghost use lib.Seq.{sets};
+ghost use Rattle.encoding.specs.Bytes.{four, fours, powerOfFour};
+use field::Element;
+use field::Scalar;
+
+// A number.
+pub fn put(out: &mut [u8], at: usize, x: u32)
+    requires { ⌜ at + 4 ≤ length (now out) ⌝ }
+    ensures { λ _. ⌜ now (out .exit) ≡ sets (now (out .entry)) at (four x) ⌝ }
+{
+    out[at] = (x / 16777216 % 256) as u8;
+    out[at + 1] = (x / 65536 % 256) as u8;
+    out[at + 2] = (x / 256 % 256) as u8;
+    out[at + 3] = (x % 256) as u8;
+}
+
+// 4^x for each x of a list.
+pub fn put_powers(out: &mut [u8], at: usize, list: &[u32])
+    requires { ⌜ at + 4 * length (now list) ≤ length (now out) ⌝ }
+    ensures { λ _. ⌜ now (out .exit) ≡ sets (now (out .entry)) at (fours (length (now (list .entry))) (λ i. powerOfFour (getD (now (list .entry)) i 0))) ⌝ }
+{
+    let count = list.len();
+    for i in 0..count {
+        let power = Element::GENERATOR.pow(Scalar(list[i]));
+        put(out, at + 4 * i, power.0);
+    }
+}
