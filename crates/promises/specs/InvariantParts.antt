@@ -29,7 +29,7 @@ use Rattle.run.specs.Steps.{orNext, dealingNumber, wrongShares, withDealing, ma
 use Rattle.promises.specs.Lists.{some, sentBy, recordOf}
 use Rattle.promises.specs.ListLaws.{snoc, some-snoc, sentBy-other}
 use Rattle.promises.specs.Senders.{New, senders-none, slots-none, senders-more, recordOf-case, slots-more}
-use Rattle.promises.specs.Invariant.{DealingsOf, ComplaintsOf, ResponsesOf, Row}
+use Rattle.promises.specs.Invariant.{filler, badMask, DealingsOf, ComplaintsOf, ResponsesOf, Row}
 
 -- no refusal: none before, and none after
 or-next : (k next : ℕ) → orNext k next ≡ 0 → (k ≡ 0) × (next ≡ 0)
@@ -46,10 +46,10 @@ pub no-dealings : (setup : Setup) → DealingsOf setup noDealings []
 unfolding noDealings some
 no-dealings setup =
     record {
-      commitments-size = length-filled 1024 (element 0);
+      commitments-size = length-filled 1024 filler;
       wrong-size = length-filled {A = ℕ} 32 0;
       senders = senders-none (setup .n);
-      slots = slots-none element (quorum (setup .t) (setup .a)) 1024;
+      slots = slots-none element filler (quorum (setup .t) (setup .a)) (noDealings .commitments);
       wrong-is = λ i p e. absurd (no-both refl (sym e));
       admitted = tt;
     }
@@ -64,7 +64,7 @@ no-responses setup =
     record {
       numbers-size = length-filled 1024 (scalar 0);
       senders = senders-none (setup .n);
-      slots = slots-none scalar (batch (setup .n) (setup .t)) 1024;
+      slots = slots-none scalar (scalar 0) (batch (setup .n) (setup .t)) (noResponses .numbers);
     }
 
 -- ---- DE
@@ -91,7 +91,7 @@ module _ (setup : Setup) (d : Dealings) (s : List ℕ) (l : List (List ℕ)) (b 
         commitments-size = length-stored (d .commitments) _ _ _ ∙ h .commitments-size;
         wrong-size = length-set (d .wrong) _ _ ∙ h .wrong-size;
         senders = senders-more s (b .n-max) c (h .senders);
-        slots = slots-more s (b .n-max) c (h .senders) element _ (d .commitments) (omega (arith, quorum-max b)) (h .commitments-size) (h .slots);
+        slots = slots-more s (b .n-max) c (h .senders) element filler _ (d .commitments) (omega (arith, quorum-max b)) (h .commitments-size) (h .slots);
         wrong-is = wrong-more;
         admitted = all-snoc _ l s (h .admitted) e;
       }
@@ -140,11 +140,14 @@ unfolding withComplaint
 complaints-more setup dealers c s l b new blames h =
     record {
       senders = senders-more s b new (h .senders);
-      blamed-is = λ i. has-or (c .blamed) (numberAt s 4) i ∙ ap (λ (z : Bool). z || has (numberAt s 4) i) (h .blamed-is i) ∙ sym (some-snoc (λ x. has (numberAt x 4) i) l s);
-      founded = λ i e. go i (has (c .blamed) i) refl (sym (has-or (c .blamed) (numberAt s 4) i) ∙ e);
+      blamed-is = λ i. more i ∙ ap (λ (z : Bool). z || has (numberAt s 4) i) (h .blamed-is i) ∙ sym (some-snoc (λ x. has (numberAt x 4) i) l s);
+      founded = λ i e. go i (has (badMask (setup .n) c) i) refl (sym (more i) ∙ e);
     }
   where
-    go : (i : ℕ) (b : Bool) → has (c .blamed) i ≡ b → (b || has (numberAt s 4) i) ≡ true → has dealers i ≡ true
+    more : (i : ℕ) → has (badMask (setup .n) (withComplaint c s)) i ≡ (has (badMask (setup .n) c) i || has (numberAt s 4) i)
+    more i = has-or (badMask (setup .n) c) (numberAt s 4) i
+
+    go : (i : ℕ) (b : Bool) → has (badMask (setup .n) c) i ≡ b → (b || has (numberAt s 4) i) ≡ true → has dealers i ≡ true
     go i true d e = h .founded i d
     go i false d e = blames i e
 
@@ -168,5 +171,5 @@ responses-more setup p s l b c h =
     record {
       numbers-size = length-stored (p .numbers) _ _ _ ∙ h .numbers-size;
       senders = senders-more s (b .n-max) c (h .senders);
-      slots = slots-more s (b .n-max) c (h .senders) scalar _ (p .numbers) (omega (arith, batch-max b)) (h .numbers-size) (h .slots);
+      slots = slots-more s (b .n-max) c (h .senders) scalar (scalar 0) _ (p .numbers) (omega (arith, batch-max b)) (h .numbers-size) (h .slots);
     }

@@ -17,7 +17,7 @@ use Rattle.run.specs.Runs.{wellFormed, stageOf, transcriptOf}
 use Rattle.run.specs.Steps.{setupOf, after}
 use Rattle.promises.specs.Lists.{accepted, ofTag, first, dealer, hold, bad, qualified, read}
 use Rattle.promises.specs.Places.{cell-lt}
-use Rattle.promises.specs.Invariant.{Live, key-is, key-element, commitment-element, live-bounds, live-well-formed, stage-of}
+use Rattle.promises.specs.Invariant.{badMask, Live, key-is, key-element, commitment-element, live-bounds, live-well-formed, stage-of}
 use Rattle.promises.specs.InvariantSteps.{invariant-after}
 
 -- what only members have
@@ -52,13 +52,13 @@ module _ (l : List (List ℕ)) (p : 0 < after l .stage) where
   unfolding hold
   made-hold j = made-live .complaints .senders .mask-is j
 
-  pub made-bad : (i : ℕ) → has (after l .complaints .blamed) i ≡ bad (accepted l) i
+  pub made-bad : (i : ℕ) → has (badMask (after l .setup .n) (after l .complaints)) i ≡ bad (accepted l) i
   unfolding bad dealer
   made-bad i =
-      within (has (after l .complaints .blamed) i) (has (after l .dealings .dealers) i) (made-live .complaints .founded i)
+      within (has (badMask (after l .setup .n) (after l .complaints)) i) (has (after l .dealings .dealers) i) (made-live .complaints .founded i)
       ∙ ap₂ _&&_ (made-live .dealings .senders .mask-is i) (made-live .complaints .blamed-is i)
 
-  pub made-qual : (i : ℕ) → (has (after l .dealings .dealers) i && not (has (after l .complaints .blamed) i)) ≡ qualified (accepted l) i
+  pub made-qual : (i : ℕ) → (has (after l .dealings .dealers) i && not (has (badMask (after l .setup .n) (after l .complaints)) i)) ≡ qualified (accepted l) i
   unfolding qualified dealer
   made-qual i = ap₂ (λ (d b : Bool). d && not b) (made-live .dealings .senders .mask-is i) (made-bad i)
 
@@ -76,7 +76,8 @@ module _ (l : List (List ℕ)) (p : 0 < after l .stage) where
         a-same = setup-same (λ z. z .a);
         key-same = key-is (after l .setup) _ (made-live .setup);
         qual-same = λ i p k. made-qual i;
-        commitment-same = λ i v p k e. made-live .dealings .slots i v p;
+        commitment-same = λ i v p k e m.
+            made-live .dealings .slots i v p m (sym (made-live .dealings .senders .mask-is i) ∙ and-left (has (after l .dealings .dealers) i) _ e);
         challenge-same = λ u k p m c d.
             made-live .challenges .challenge-is (cell (after l .setup .a) u k) (cell-lt (after l .setup .a) (batch (after l .setup .n) (after l .setup .t)) u k p m c d)
             ∙ ap (λ (x : ℕ). scalar (word (first (ofTag CH (accepted l))) 4 (cell x u k))) (setup-same (λ z. z .a));

@@ -9,15 +9,16 @@ use native.Mathlib.Numerals.{add-one}
 use lib.ListN.{length, getD, length-append}
 use lib.Dec.{eqb}
 use borrow.Author.Tests.{eqb-true, eqb-false, eq-eqb, ne-eqb}
+use Rattle.lists.specs.Tests.{no-both}
 use Rattle.lists.specs.Members.{All, all-snoc, Distinct, distinct-snoc}
-use Rattle.lists.specs.Stores.{stored, filled, stored-at, stored-other, getD-filled}
+use Rattle.lists.specs.Stores.{stored, stored-at, stored-other}
 use Rattle.sets.specs.Masks.{has, insert, count}
 use Rattle.sets.specs.MaskLaws.{has-zero, has-insert}
 use Rattle.sets.specs.MemberLaws.{no-members, more-members, count-le}
-use Rattle.records.specs.Bytes.{byteAt, numberAt, word, sender}
+use Rattle.records.specs.Bytes.{word, sender}
 use Rattle.protocol.specs.Arrays.{base}
 use Rattle.promises.specs.Lists.{some, sentBy, recordOf}
-use Rattle.promises.specs.ListLaws.{snoc, some-snoc, none-sent, recordOf-new, recordOf-other}
+use Rattle.promises.specs.ListLaws.{snoc, some-snoc, sentBy-other, none-sent, recordOf-new, recordOf-other}
 
 -- l has so many records, of different parties from 1 to n, who are the members of a mask
 pub record Senders (n number mask : ℕ) (l : List (List ℕ)) : Type 0 where
@@ -33,9 +34,9 @@ pub record New (n mask : ℕ) (s : List ℕ) : Type 0 where
   pub sender-max : sender s ≤ n
   pub unsent : has mask (sender s) ≡ false
 
--- party i's numbers stand in its slot, and 0 where it has none
-abbrev pub Slots : {A : Type 0} → (ℕ → A) → ℕ → List A → List (List ℕ) → Type 0
-Slots make width kept l = (i v : ℕ) → 0 < i → v < width → getD kept (base i + v) (make 0) ≡ make (word (recordOf i l) 4 v)
+-- the numbers of each party that has a record stand in its slot
+abbrev pub Slots : {A : Type 0} → (ℕ → A) → A → ℕ → List A → List (List ℕ) → Type 0
+Slots make filler width kept l = (i v : ℕ) → 0 < i → v < width → sentBy i l ≡ true → getD kept (base i + v) filler ≡ make (word (recordOf i l) 4 v)
 
 -- ---- no record
 
@@ -43,9 +44,9 @@ pub senders-none : (n : ℕ) → Senders n 0 0 []
 unfolding some
 senders-none n = record { number-is = refl; members-are = sym (no-members (has 0) has-zero 1 n); mask-is = has-zero; parties = tt; differ = tt }
 
-pub slots-none : {A : Type 0} (make : ℕ → A) (width size : ℕ) → Slots make width (filled size (make 0)) []
-unfolding recordOf word numberAt byteAt
-slots-none make width size i v p l = getD-filled size (make 0) (base i + v)
+pub slots-none : {A : Type 0} (make : ℕ → A) (filler : A) (width : ℕ) (kept : List A) → Slots make filler width kept []
+unfolding some
+slots-none make filler width kept i v p l e = absurd (no-both e refl)
 
 pub senders-max : {n number mask : ℕ} {l : List (List ℕ)} → Senders n number mask l → number ≤ n
 senders-max {n} {number} {mask} h = omega (arith, h .members-are, count-le n (has mask))
@@ -97,10 +98,10 @@ module _ {n number mask : ℕ} {l : List (List ℕ)} (s : List ℕ) (n-max : n �
       go true e = let d = eqb-true (sender s) i e in rw (recordOf-new i l s (ap (λ j. sentBy j l) (sym d) ∙ unsent-yet) d) (own d)
       go false e = rw (recordOf-other i l s e) (other (eqb-false (sender s) i e))
 
-  pub slots-more : {A : Type 0} (make : ℕ → A) (width : ℕ) (kept : List A) → width ≤ 32 → length kept ≡ 1024 → Slots make width kept l
-      → Slots make width (stored kept (base (sender s)) width (λ v. make (word s 4 v))) (snoc l s)
-  slots-more make width kept width-max size slots i v p d =
-      recordOf-case (λ z. getD (stored kept (base (sender s)) width (λ v. make (word s 4 v))) (base i + v) (make 0) ≡ make (word z 4 v)) i
-      (λ own. rw (← own) (stored-at kept (base (sender s)) width _ (make 0) (omega (arith, slot-fits (sender s) width (omega arith) width-max)) v d))
-      (λ other. stored-other kept (base (sender s)) width _ (make 0) (base i + v) (λ x y e. other (sym (slots-apart i (sender s) v x p (c .sender-pos) (omega arith) (omega arith) e)))
-      ∙ slots i v p d)
+  pub slots-more : {A : Type 0} (make : ℕ → A) (filler : A) (width : ℕ) (kept : List A) → width ≤ 32 → length kept ≡ 1024 → Slots make filler width kept l
+      → Slots make filler width (stored kept (base (sender s)) width (λ v. make (word s 4 v))) (snoc l s)
+  slots-more make filler width kept width-max size slots i v p d sent =
+      recordOf-case (λ z. getD (stored kept (base (sender s)) width (λ v. make (word s 4 v))) (base i + v) filler ≡ make (word z 4 v)) i
+      (λ own. rw (← own) (stored-at kept (base (sender s)) width _ filler (omega (arith, slot-fits (sender s) width (omega arith) width-max)) v d))
+      (λ other. stored-other kept (base (sender s)) width _ filler (base i + v) (λ x y e. other (sym (slots-apart i (sender s) v x p (c .sender-pos) (omega arith) (omega arith) e)))
+      ∙ slots i v p d (sym (sentBy-other i l s other) ∙ sent))
