@@ -10,7 +10,7 @@ use borrow.Author.Tests.{eqb-true, eqb-false, le-leb}
 use Rattle.lists.specs.Tests.{pick, pick-case}
 use Rattle.lists.specs.Members.{All}
 use Rattle.lists.specs.Stores.{stored-from, length-filled}
-use Rattle.sets.specs.Masks.{has}
+use Rattle.sets.specs.Masks.{has, count}
 use Rattle.field.specs.declared.Scalar.{Scalar}
 use Rattle.field.specs.declared.Element.{Element}
 use Rattle.field.specs.Definitions.{scalar, element, IsElement}
@@ -85,10 +85,20 @@ pub record Done (r : Run) : Type 0 where
   pub full : r .responses .count ≡ quorum (r .setup .t) (r .setup .a)
   pub signatures : (x : ℕ) → x < r .setup .a * batch (r .setup .n) (r .setup .t) → getD (r .signatures) x (scalar 0) ≡ phiOf r (x / r .setup .a + 1) (x % r .setup .a + 1)
 
+-- n-t dealings end stage 1, n-t complaint rows stage 2; and more than t dealers are in BAD at stage 6 alone
+pub record Counts (stage : ℕ) (setup : Setup) (d : Dealings) (c : Complaints) : Type 0 where
+  pub dealing : stage ≡ 1 → d .count < setup .n - setup .t
+  pub dealt : 1 < stage → d .count ≡ setup .n - setup .t
+  pub complaining : stage ≤ 2 → c .count < setup .n - setup .t
+  pub complained : 2 < stage → c .count ≡ setup .n - setup .t
+  pub few-bad : 2 < stage → stage < 6 → count (setup .n) (has (badMask (setup .n) c)) ≤ setup .t
+  pub many-bad : stage ≡ 6 → setup .t < count (setup .n) (has (badMask (setup .n) c))
+
 -- what the stage says; f holds the accepted records of each tag
 pub record AtStage (stage : ℕ) (r : Run) (f : Tag → List (List ℕ)) : Type 0 where
   pub stage-pos : 0 < stage
   pub stage-max : stage ≤ 6
+  pub counts : Counts stage (r .setup) (r .dealings) (r .complaints)
   pub early : stage < 4 → (f CH ≡ []) × (f RE ≡ [])
   pub done : stage ≡ 5 → Done r
 

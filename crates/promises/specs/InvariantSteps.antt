@@ -2,34 +2,39 @@
 use mathlib.Core.Path.{_≡_, refl, sym, subst, fun-ext, _∙_}
 use mathlib.Core.Bool.{Bool, true, false, not, _&&_}
 use mathlib.Core.List.{List, [], _∷_, _++_, append-assoc, append-nil}
-use Prim.Native.Nat.{ℕ, suc, _+_, _-_, _<_}
+use Prim.Native.Nat.{ℕ, suc, _+_, _-_, _≤_, _<_}
 use native.Mathlib.Omega.{arith}
 use lib.Dec.{eqb, ltb, leb}
-use borrow.Author.Tests.{eqb-true, eqb-false, leb-true}
+use borrow.Author.Tests.{eqb-true, eqb-false, leb-true, ltb-true, ltb-false}
 use Rattle.lists.specs.Tests.{pick, pick-case, not-yes, and-left, and-right}
 use Rattle.lists.specs.Members.{all-snoc}
 use Rattle.lists.specs.Stores.{length-stored, stored-from, length-filled, getD-filled}
+use Rattle.sets.specs.Masks.{has, count}
 use Rattle.field.specs.Definitions.{scalar}
 use Rattle.records.specs.Parameters.{quorum}
 use Rattle.records.specs.Bytes.{byteAt, numberAt, word}
 use Rattle.records.specs.Tags.{Tag, SU, DE, VE, CH, RE, unknown, tagOf}
 use Rattle.records.specs.Refusals.{setupRefusal}
-use Rattle.records.specs.Laws.{cells-max}
+use Rattle.records.specs.Laws.{setup-passed, cells-max}
+use Rattle.run.specs.declared.Setup.{Setup}
+use Rattle.run.specs.declared.Dealings.{Dealings}
+use Rattle.run.specs.declared.Complaints.{Complaints}
 use Rattle.run.specs.declared.Run.{Run}
-use Rattle.run.specs.Runs.{noScalars, begun, fresh, stageOf, transcriptOf, phiOf}
-use Rattle.run.specs.Steps.{dealingNumber, withDealing, afterDealing, afterSetup, complaintNumber, withComplaint, complaintStage, afterComplaint, challengesNumber, afterChallenges, responseNumber, withResponse, withRow, finished, afterResponse, refused, taken, stepAt, stepOf, afterFrom, after}
+use Rattle.run.specs.Runs.{noDealings, noComplaints, noScalars, begun, fresh, stageOf, transcriptOf, phiOf}
+use Rattle.run.specs.Steps.{setupOf, dealingNumber, withDealing, afterDealing, afterSetup, complaintNumber, withComplaint, complaintStage, afterComplaint, challengesNumber, afterChallenges, responseNumber, withResponse, withRow, finished, afterResponse, refused, taken, stepAt, stepOf, afterFrom, after}
 use Rattle.promises.specs.Lists.{acceptedFrom, accepted, ofTag, first}
 use Rattle.promises.specs.ListLaws.{snoc, more, ofTag-snoc}
-use Rattle.promises.specs.Invariant.{AtStage, Live, Invariant, live-bounds, stage-of}
+use Rattle.promises.specs.Invariant.{badMask, Counts, AtStage, Live, Invariant, live-bounds, stage-of}
 use Rattle.promises.specs.InvariantParts.{no-dealings, no-complaints, no-responses, dealing-new, dealings-more, complaint-new, complaints-more, complaints-kept, response-new, responses-more}
 
 -- a stage at which no φ is due
 before : (r : Run) (f : Tag → List (List ℕ)) (stage : ℕ) → (leb 1 stage && (leb stage 6 && not (eqb stage 5))) ≡ true
-    → (stage < 4 → (f CH ≡ []) × (f RE ≡ [])) → AtStage stage r f
-before r f stage e none =
+    → (stage < 4 → (f CH ≡ []) × (f RE ≡ [])) → Counts stage (r .setup) (r .dealings) (r .complaints) → AtStage stage r f
+before r f stage e none counts =
     record {
       stage-pos = leb-true 1 stage (and-left (leb 1 stage) _ e);
       stage-max = leb-true stage 6 (and-left (leb stage 6) _ (and-right (leb 1 stage) _ e));
+      counts = counts;
       early = none;
       done = λ d. absurd (eqb-false stage 5 (not-yes _ (and-right (leb stage 6) _ (and-right (leb 1 stage) _ e))) d);
     }
@@ -37,8 +42,9 @@ before r f stage e none =
 -- ---- SU
 
 setup-live : (s : List ℕ) → setupRefusal s ≡ 0 → Live (afterSetup s) (more SU s (λ g. []))
-unfolding afterSetup begun noScalars first word numberAt byteAt
+unfolding afterSetup setupOf begun noDealings noComplaints noScalars first word numberAt byteAt
 setup-live s e =
+    let b = setup-passed s e .bounds in
     record {
       setup = record { setup-is = refl; admitted = e };
       dealings = no-dealings _;
@@ -47,7 +53,14 @@ setup-live s e =
       responses = no-responses _;
       rows = tt;
       signatures-size = length-filled 512 (scalar 0);
-      stage = before _ _ 1 refl (λ l. (refl, refl));
+      stage = before _ _ 1 refl (λ l. (refl, refl)) (record {
+        dealing = λ z. omega arith;
+        dealt = λ z. omega arith;
+        complaining = λ z. omega arith;
+        complained = λ z. omega arith;
+        few-bad = λ z y. omega arith;
+        many-bad = λ z. omega arith;
+      });
     }
 
 -- ---- DE
@@ -67,8 +80,25 @@ dealing-live r s f g e h =
       responses = h .responses;
       rows = rw (none .1) tt;
       signatures-size = h .signatures-size;
-      stage = pick-case (λ z. AtStage z (afterDealing r s) (more DE s f)) (eqb (r .dealings .count + 1) (r .setup .n - r .setup .t)) 2 1 (λ d. at 2 refl (λ l. none)) (λ d. at 1 refl (λ l. none));
+      stage = pick-case (λ z. AtStage z (afterDealing r s) (more DE s f)) (eqb (r .dealings .count + 1) (r .setup .n - r .setup .t)) 2 1
+          (λ d. at 2 refl (λ l. none) (counts 2 (omega arith) (λ z. omega arith) (λ z. eqb-true _ _ d)))
+          (λ d. at 1 refl (λ l. none) (counts 1 (omega arith) (λ z. omega (arith, few, eqb-false (r .dealings .count + 1) (r .setup .n - r .setup .t) d)) (λ z. omega arith)));
     }
+  where
+    few : r .dealings .count < r .setup .n - r .setup .t
+    few = h .stage .counts .dealing g
+
+    counts : (stage : ℕ) → stage ≤ 2 → (stage ≡ 1 → r .dealings .count + 1 < r .setup .n - r .setup .t) → (1 < stage → r .dealings .count + 1 ≡ r .setup .n - r .setup .t)
+        → Counts stage (r .setup) (withDealing (r .setup) (r .dealings) s) (r .complaints)
+    counts stage l x y =
+        record {
+          dealing = x;
+          dealt = y;
+          complaining = λ z. h .stage .counts .complaining (omega arith);
+          complained = λ z. omega arith;
+          few-bad = λ z k. omega arith;
+          many-bad = λ z. omega arith;
+        }
 
 -- ---- VE
 
@@ -87,10 +117,37 @@ complaint-live r s f g e h =
       rows = rw (none .1) tt;
       signatures-size = h .signatures-size;
       stage = pick-case (λ z. AtStage z (afterComplaint r s) (more VE s f)) (eqb (r .complaints .count + 1) (r .setup .n - r .setup .t)) _ 2
-          (λ d. pick-case (λ z. AtStage z (afterComplaint r s) (more VE s f)) (ltb (r .setup .t) _) 6 3 (λ d. at 6 refl (λ l. none)) (λ d. at 3 refl (λ l. none))) (λ d. at 2 refl (λ l. none));
+          (λ d. pick-case (λ z. AtStage z (afterComplaint r s) (more VE s f)) (ltb (r .setup .t) _) 6 3
+          (λ b. at 6 refl (λ l. none) (counts 6 (omega arith) (λ z. omega arith) (λ z. eqb-true _ _ d) (λ z y. omega arith) (λ z. ltb-true _ _ b)))
+          (λ b. at 3 refl (λ l. none) (counts 3 (omega arith) (λ z. omega arith) (λ z. eqb-true _ _ d) (λ z y. ltb-false _ _ b) (λ z. omega arith))))
+          (λ d. at 2 refl (λ l. none) (counts 2 (omega arith) (λ z. omega (arith, few, eqb-false (r .complaints .count + 1) (r .setup .n - r .setup .t) d)) (λ z. omega arith) (λ z y. omega arith) (λ z. omega arith)));
     }
+  where
+    c' : Complaints
+    c' = withComplaint (r .complaints) s
+
+    few : r .complaints .count < r .setup .n - r .setup .t
+    few = h .stage .counts .complaining (omega arith)
+
+    counts : (stage : ℕ) → 1 < stage → (stage ≤ 2 → c' .count < r .setup .n - r .setup .t) → (2 < stage → c' .count ≡ r .setup .n - r .setup .t)
+        → (2 < stage → stage < 6 → count (r .setup .n) (has (badMask (r .setup .n) c')) ≤ r .setup .t) → (stage ≡ 6 → r .setup .t < count (r .setup .n) (has (badMask (r .setup .n) c')))
+        → Counts stage (r .setup) (r .dealings) c'
+    counts stage l x y p q =
+        record { dealing = λ z. omega arith; dealt = λ z. h .stage .counts .dealt (omega arith); complaining = x; complained = y; few-bad = p; many-bad = q }
 
 -- ---- CH
+
+-- past stage 2 the counts stand
+counts-past : (setup : Setup) (d : Dealings) (c : Complaints) (stage next : ℕ) → 2 < stage → stage < next → next < 6 → Counts stage setup d c → Counts next setup d c
+counts-past setup d c stage next l m k h =
+    record {
+      dealing = λ z. omega arith;
+      dealt = λ z. h .dealt (omega arith);
+      complaining = λ z. omega arith;
+      complained = λ z. h .complained (omega arith);
+      few-bad = λ z y. h .few-bad l (omega arith);
+      many-bad = λ z. omega arith;
+    }
 
 challenges-live : (r : Run) (s : List ℕ) (f : Tag → List (List ℕ)) → r .stage ≡ 3 → Live r f → Live (afterChallenges r s) (more CH s f)
 unfolding afterChallenges transcriptOf first
@@ -107,7 +164,7 @@ challenges-live r s f g h =
       responses = h .responses;
       rows = rw (none .1) tt;
       signatures-size = h .signatures-size;
-      stage = before _ _ 4 refl (λ l. absurd (omega arith));
+      stage = before _ _ 4 refl (λ l. absurd (omega arith)) (counts-past (r .setup) (r .dealings) (r .complaints) 3 4 (omega arith) (omega arith) (omega arith) (rw g at (h .stage .counts)));
     }
 
 -- ---- RE
@@ -124,12 +181,12 @@ row-live r s f g e h =
       responses = responses-more (r .setup) (r .responses) s (f RE) (live-bounds r f h) (c .0) (h .responses);
       rows = all-snoc _ (f RE) s (h .rows) (c .1);
       signatures-size = h .signatures-size;
-      stage = before _ _ 4 refl (λ l. absurd (omega arith));
+      stage = before _ _ 4 refl (λ l. absurd (omega arith)) (rw g at (h .stage .counts));
     }
 
-finished-live : (r : Run) (f : Tag → List (List ℕ)) → r .responses .count ≡ quorum (r .setup .t) (r .setup .a) → Live r f → Live (finished r) f
+finished-live : (r : Run) (f : Tag → List (List ℕ)) → r .stage ≡ 4 → r .responses .count ≡ quorum (r .setup .t) (r .setup .a) → Live r f → Live (finished r) f
 unfolding finished transcriptOf phiOf
-finished-live r f e h =
+finished-live r f g e h =
     record {
       setup = h .setup;
       dealings = h .dealings;
@@ -141,6 +198,7 @@ finished-live r f e h =
       stage = record {
         stage-pos = omega arith;
         stage-max = omega arith;
+        counts = counts-past (r .setup) (r .dealings) (r .complaints) 4 5 (omega arith) (omega arith) (omega arith) (rw g at (h .stage .counts));
         early = λ l. absurd (omega arith);
         done = λ d. record {
           full = e;
@@ -154,7 +212,7 @@ unfolding afterResponse withRow withResponse
 response-live r s f g e h =
     let row = row-live r s f g e h in
     pick-case (λ z. Live z (more RE s f)) (eqb (r .responses .count + 1) (quorum (r .setup .t) (r .setup .a))) (finished (withRow r s)) (withRow r s)
-    (λ d. finished-live (withRow r s) (more RE s f) (eqb-true _ _ d) row) (λ d. row)
+    (λ d. finished-live (withRow r s) (more RE s f) refl (eqb-true _ _ d) row) (λ d. row)
 
 -- ---- the step, and the list
 
