@@ -100,6 +100,7 @@ pub record AtStage (stage : ℕ) (r : Run) (f : Tag → List (List ℕ)) : Type 
   pub stage-max : stage ≤ 6
   pub counts : Counts stage (r .setup) (r .dealings) (r .complaints)
   pub early : stage < 4 → (f CH ≡ []) × (f RE ≡ [])
+  pub challenged : 3 < stage → stage < 6 → 0 < length (f CH)
   pub done : stage ≡ 5 → Done r
 
 -- ---- the invariant
@@ -115,10 +116,15 @@ pub record Live (r : Run) (f : Tag → List (List ℕ)) : Type 0 where
   pub signatures-size : length (r .signatures) ≡ 512
   pub stage : AtStage (r .stage) r f
 
+-- need response rows end stage 4
+abbrev pub Responding : Run → Type 0
+Responding r = r .stage ≡ 4 → r .responses .count < quorum (r .setup .t) (r .setup .a)
+
 -- of a run and the accepted records of its list
 pub record Invariant (r : Run) (l : List (List ℕ)) : Type 0 where
   pub start : r .stage ≡ 0 → l ≡ []
   pub live : 0 < r .stage → Live r (λ g. ofTag g l)
+  pub responding : Responding r
 
 -- ---- what follows
 

@@ -3,12 +3,13 @@ use Prim.Native.Nat.{ℕ, _-_}
 use mathlib.Core.Bool.{Bool, false, not, _&&_, _||_}
 use mathlib.Core.List.{List, [], _∷_}
 use lib.ListN.{length, getD}
-use lib.Dec.{eqb}
+use lib.Dec.{eqb, ltb}
 use Rattle.lists.specs.Tests.{pick}
-use Rattle.sets.specs.Masks.{has}
+use Rattle.sets.specs.Masks.{has, count}
 use Rattle.field.specs.declared.Scalar.{Scalar}
 use Rattle.field.specs.Definitions.{scalar, element}
 use Rattle.interpolation.specs.Definitions.{party, slot, scalarAt}
+use Rattle.records.specs.Parameters.{quorum}
 use Rattle.records.specs.Bytes.{byteAt, numberAt, word, sender}
 use Rattle.records.specs.Tags.{Tag, SU, DE, VE, CH, RE, code, tagOf}
 use Rattle.run.specs.declared.Run.{Run}
@@ -84,3 +85,13 @@ module _ (l : List (List ℕ)) where
   unfoldable pub phi : ℕ → ℕ → Scalar
   phi u k =
       scalarAt (λ i. party (sender (getD (ofTag RE l) i []))) (length (ofTag RE l)) (λ i. scalar (word (getD (ofTag RE l) i []) 4 (u - 1))) (slot k)
+
+  -- the stage: n-t DE end stage 1, n-t VE stage 2, a CH stage 3 and need RE stage 4; more than t dealers in BAD make it 6
+  unfoldable pub stageBy : ℕ
+  stageBy =
+      pick (eqb (length (ofTag SU l)) 0) 0
+      (pick (ltb (length (ofTag DE l)) (read .n - read .t)) 1
+      (pick (ltb (length (ofTag VE l)) (read .n - read .t)) 2
+      (pick (ltb (read .t) (count (read .n) bad)) 6
+      (pick (eqb (length (ofTag CH l)) 0) 3
+      (pick (ltb (length (ofTag RE l)) (quorum (read .t) (read .a))) 4 5)))))

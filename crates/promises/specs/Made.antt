@@ -89,7 +89,7 @@ module _ (l : List (List ℕ)) (p : 0 < after l .stage) where
 
   -- ---- the numbers of records, by stage
 
-  read-count : read (accepted l) .n - read (accepted l) .t ≡ after l .setup .n - after l .setup .t
+  pub read-count : read (accepted l) .n - read (accepted l) .t ≡ after l .setup .n - after l .setup .t
   unfolding transcriptOf
   read-count = sym (ap₂ (λ (n t : ℕ). n - t) (made-alike .n-same) (made-alike .t-same))
 
