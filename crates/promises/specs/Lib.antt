@@ -9,4 +9,5 @@ pub mod Made
 pub mod Stages
 pub mod Finished
 pub mod Demand3
+pub mod Answers
 pub mod Pages
