@@ -11,3 +11,4 @@ pub mod Finished
 pub mod Demand3
 pub mod Answers
 pub mod Pages
+pub mod Complaints
