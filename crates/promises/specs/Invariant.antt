@@ -100,7 +100,8 @@ pub record AtStage (stage : ℕ) (r : Run) (f : Tag → List (List ℕ)) : Type 
   pub stage-max : stage ≤ 6
   pub counts : Counts stage (r .setup) (r .dealings) (r .complaints)
   pub early : stage < 4 → (f CH ≡ []) × (f RE ≡ [])
-  pub challenged : 3 < stage → stage < 6 → 0 < length (f CH)
+  pub one-setup : length (f SU) ≡ 1
+  pub challenged : 3 < stage → stage < 6 → length (f CH) ≡ 1
   pub done : stage ≡ 5 → Done r
 
 -- ---- the invariant

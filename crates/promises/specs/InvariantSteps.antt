@@ -4,7 +4,7 @@ use mathlib.Core.Bool.{Bool, true, false, not, _&&_}
 use mathlib.Core.List.{List, [], _∷_, _++_, append-assoc, append-nil}
 use Prim.Native.Nat.{ℕ, suc, _+_, _-_, _≤_, _<_}
 use native.Mathlib.Omega.{arith}
-use lib.ListN.{length, length-append}
+use lib.ListN.{length}
 use lib.Dec.{eqb, ltb, leb}
 use borrow.Author.Tests.{eqb-true, eqb-false, leb-true, ltb-true, ltb-false}
 use Rattle.lists.specs.Tests.{pick, pick-case, not-yes, and-left, and-right}
@@ -30,13 +30,14 @@ use Rattle.promises.specs.InvariantParts.{no-dealings, no-complaints, no
 
 -- a stage at which no φ is due
 before : (r : Run) (f : Tag → List (List ℕ)) (stage : ℕ) → (leb 1 stage && (leb stage 6 && not (eqb stage 5))) ≡ true
-    → (stage < 4 → (f CH ≡ []) × (f RE ≡ [])) → (3 < stage → stage < 6 → 0 < length (f CH)) → Counts stage (r .setup) (r .dealings) (r .complaints) → AtStage stage r f
-before r f stage e none some counts =
+    → (stage < 4 → (f CH ≡ []) × (f RE ≡ [])) → length (f SU) ≡ 1 → (3 < stage → stage < 6 → length (f CH) ≡ 1) → Counts stage (r .setup) (r .dealings) (r .complaints) → AtStage stage r f
+before r f stage e none one some counts =
     record {
       stage-pos = leb-true 1 stage (and-left (leb 1 stage) _ e);
       stage-max = leb-true stage 6 (and-left (leb stage 6) _ (and-right (leb 1 stage) _ e));
       counts = counts;
       early = none;
+      one-setup = one;
       challenged = some;
       done = λ d. absurd (eqb-false stage 5 (not-yes _ (and-right (leb stage 6) _ (and-right (leb 1 stage) _ e))) d);
     }
@@ -59,7 +60,7 @@ setup-live s e =
       responses = no-responses _;
       rows = tt;
       signatures-size = length-filled 512 (scalar 0);
-      stage = before _ _ 1 refl (λ l. (refl, refl)) (λ l m. omega arith) (record {
+      stage = before _ _ 1 refl (λ l. (refl, refl)) refl (λ l m. omega arith) (record {
         dealing = λ z. omega arith;
         dealt = λ z. omega arith;
         complaining = λ z. omega arith;
@@ -87,8 +88,8 @@ dealing-live r s f g e h =
       rows = rw (none .1) tt;
       signatures-size = h .signatures-size;
       stage = pick-case (λ z. AtStage z (afterDealing r s) (more DE s f)) (eqb (r .dealings .count + 1) (r .setup .n - r .setup .t)) 2 1
-          (λ d. at 2 refl (λ l. none) (λ l m. omega arith) (counts 2 (omega arith) (λ z. omega arith) (λ z. eqb-true _ _ d)))
-          (λ d. at 1 refl (λ l. none) (λ l m. omega arith) (counts 1 (omega arith) (λ z. omega (arith, few, eqb-false (r .dealings .count + 1) (r .setup .n - r .setup .t) d)) (λ z. omega arith)));
+          (λ d. at 2 refl (λ l. none) (h .stage .one-setup) (λ l m. omega arith) (counts 2 (omega arith) (λ z. omega arith) (λ z. eqb-true _ _ d)))
+          (λ d. at 1 refl (λ l. none) (h .stage .one-setup) (λ l m. omega arith) (counts 1 (omega arith) (λ z. omega (arith, few, eqb-false (r .dealings .count + 1) (r .setup .n - r .setup .t) d)) (λ z. omega arith)));
     }
   where
     few : r .dealings .count < r .setup .n - r .setup .t
@@ -124,9 +125,9 @@ complaint-live r s f g e h =
       signatures-size = h .signatures-size;
       stage = pick-case (λ z. AtStage z (afterComplaint r s) (more VE s f)) (eqb (r .complaints .count + 1) (r .setup .n - r .setup .t)) _ 2
           (λ d. pick-case (λ z. AtStage z (afterComplaint r s) (more VE s f)) (ltb (r .setup .t) _) 6 3
-          (λ b. at 6 refl (λ l. none) (λ l m. omega arith) (counts 6 (omega arith) (λ z. omega arith) (λ z. eqb-true _ _ d) (λ z y. omega arith) (λ z. ltb-true _ _ b)))
-          (λ b. at 3 refl (λ l. none) (λ l m. omega arith) (counts 3 (omega arith) (λ z. omega arith) (λ z. eqb-true _ _ d) (λ z y. ltb-false _ _ b) (λ z. omega arith))))
-          (λ d. at 2 refl (λ l. none) (λ l m. omega arith) (counts 2 (omega arith) (λ z. omega (arith, few, eqb-false (r .complaints .count + 1) (r .setup .n - r .setup .t) d)) (λ z. omega arith) (λ z y. omega arith) (λ z. omega arith)));
+          (λ b. at 6 refl (λ l. none) (h .stage .one-setup) (λ l m. omega arith) (counts 6 (omega arith) (λ z. omega arith) (λ z. eqb-true _ _ d) (λ z y. omega arith) (λ z. ltb-true _ _ b)))
+          (λ b. at 3 refl (λ l. none) (h .stage .one-setup) (λ l m. omega arith) (counts 3 (omega arith) (λ z. omega arith) (λ z. eqb-true _ _ d) (λ z y. ltb-false _ _ b) (λ z. omega arith))))
+          (λ d. at 2 refl (λ l. none) (h .stage .one-setup) (λ l m. omega arith) (counts 2 (omega arith) (λ z. omega (arith, few, eqb-false (r .complaints .count + 1) (r .setup .n - r .setup .t) d)) (λ z. omega arith) (λ z y. omega arith) (λ z. omega arith)));
     }
   where
     c' : Complaints
@@ -170,7 +171,7 @@ challenges-live r s f g h =
       responses = h .responses;
       rows = rw (none .1) tt;
       signatures-size = h .signatures-size;
-      stage = before _ _ 4 refl (λ l. absurd (omega arith)) (λ l m. omega (arith, length-append (f CH) (s ∷ []))) (counts-past (r .setup) (r .dealings) (r .complaints) 3 4 (omega arith) (omega arith) (omega arith) (rw g at (h .stage .counts)));
+      stage = before _ _ 4 refl (λ l. absurd (omega arith)) (h .stage .one-setup) (λ l m. rw (none .0)) (counts-past (r .setup) (r .dealings) (r .complaints) 3 4 (omega arith) (omega arith) (omega arith) (rw g at (h .stage .counts)));
     }
 
 challenges-few : (r : Run) (s : List ℕ) (f : Tag → List (List ℕ)) → r .stage ≡ 3 → Live r f → Responding (afterChallenges r s)
@@ -191,7 +192,7 @@ row-live r s f g e h =
       responses = responses-more (r .setup) (r .responses) s (f RE) (live-bounds r f h) (c .0) (h .responses);
       rows = all-snoc _ (f RE) s (h .rows) (c .1);
       signatures-size = h .signatures-size;
-      stage = before _ _ 4 refl (λ l. absurd (omega arith)) (λ l m. h .stage .challenged (omega arith) (omega arith)) (rw g at (h .stage .counts));
+      stage = before _ _ 4 refl (λ l. absurd (omega arith)) (h .stage .one-setup) (λ l m. h .stage .challenged (omega arith) (omega arith)) (rw g at (h .stage .counts));
     }
 
 finished-live : (r : Run) (f : Tag → List (List ℕ)) → r .stage ≡ 4 → r .responses .count ≡ quorum (r .setup .t) (r .setup .a) → Live r f → Live (finished r) f
@@ -210,6 +211,7 @@ finished-live r f g e h =
         stage-max = omega arith;
         counts = counts-past (r .setup) (r .dealings) (r .complaints) 4 5 (omega arith) (omega arith) (omega arith) (rw g at (h .stage .counts));
         early = λ l. absurd (omega arith);
+        one-setup = h .stage .one-setup;
         challenged = λ l m. h .stage .challenged (omega arith) (omega arith);
         done = λ d. record {
           full = e;

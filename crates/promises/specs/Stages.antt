@@ -1,28 +1,20 @@
 -- The stage of the run that a list makes is the one that its accepted records bring. Assumes nothing.
 use mathlib.Core.Path.{_≡_, refl, ap₂}
 use mathlib.Core.Bool.{true, false}
-use mathlib.Core.List.{List, [], _∷_}
+use mathlib.Core.List.{List}
 use Prim.Native.Nat.{ℕ, zero, suc, _-_, _<_}
 use native.Mathlib.Omega.{arith}
 use lib.ListN.{length}
 use lib.Dec.{eqb, ltb}
 use borrow.Author.Tests.{lt-ltb, le-ltb, ne-eqb}
-use Rattle.lists.specs.Tests.{require}
 use Rattle.sets.specs.Masks.{count}
 use Rattle.records.specs.Parameters.{quorum}
 use Rattle.records.specs.Tags.{Tag, SU, DE, VE, CH, RE}
-use Rattle.records.specs.Refusals.{setupRefusal}
 use Rattle.run.specs.Runs.{transcriptOf}
 use Rattle.run.specs.Steps.{after}
-use Rattle.promises.specs.Lists.{accepted, ofTag, first, bad, read, stageBy}
+use Rattle.promises.specs.Lists.{accepted, ofTag, bad, read, stageBy}
 use Rattle.promises.specs.InvariantSteps.{invariant-after}
 use Rattle.promises.specs.Made.{made-live, made-alike, made-dealings, made-complaints, made-few-bad, made-many-bad, read-count}
-
--- no empty record is an SU
-setup-there : (l : List (List ℕ)) → setupRefusal (first l) ≡ 0 → length l ≡ 0 → ⊥
-unfolding first setupRefusal require
-setup-there [] e z = omega arith
-setup-there (s ∷ l) e z = omega arith
 
 module _ (l : List (List ℕ)) where
   abbrev n : ℕ
@@ -40,7 +32,7 @@ module _ (l : List (List ℕ)) where
 
   module _ (p : 0 < after l .stage) where
     setup-seen : eqb (number SU) 0 ≡ false
-    setup-seen = ne-eqb _ 0 (setup-there (ofTag SU (accepted l)) (made-live l p .setup .admitted))
+    setup-seen = ne-eqb (number SU) 0 (λ e. omega (arith, made-live l p .stage .one-setup))
 
     few-dealings : after l .stage ≡ 1 → ltb (number DE) (n - t) ≡ true
     few-dealings e = lt-ltb (number DE) (n - t) (omega (arith, made-live l p .dealings .senders .number-is, made-live l p .stage .counts .dealing e, read-count l p))
