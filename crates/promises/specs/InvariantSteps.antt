@@ -1,13 +1,13 @@
 -- Every record keeps the invariant, accepted or refused; so every list has it. Assumes nothing.
 use mathlib.Core.Path.{_≡_, refl, sym, ap, subst, fun-ext, _∙_}
-use mathlib.Core.Bool.{Bool, true, false, not, _&&_}
+use mathlib.Core.Bool.{Bool, true, false, _&&_, _||_}
 use mathlib.Core.List.{List, [], _∷_, _++_, append-assoc, append-nil}
 use Prim.Native.Nat.{ℕ, suc, _+_, _-_, _≤_, _<_}
 use native.Mathlib.Omega.{arith}
 use lib.ListN.{length}
 use lib.Dec.{eqb, ltb, leb}
 use borrow.Author.Tests.{eqb-true, eqb-false, leb-true, ltb-true, ltb-false}
-use Rattle.lists.specs.Tests.{pick, pick-case, not-yes, and-left, and-right}
+use Rattle.lists.specs.Tests.{pick, pick-case, and-left, and-right}
 use Rattle.lists.specs.Members.{all-snoc}
 use Rattle.lists.specs.Stores.{length-stored, stored-from, length-filled, getD-filled}
 use Rattle.sets.specs.Masks.{has, count}
@@ -28,18 +28,42 @@ use Rattle.promises.specs.ListLaws.{snoc, more, ofTag-snoc}
 use Rattle.promises.specs.Invariant.{badMask, Counts, AtStage, Live, Responding, Invariant, live-bounds, stage-of}
 use Rattle.promises.specs.InvariantParts.{no-dealings, no-complaints, no-responses, dealing-new, dealings-more, complaint-new, complaints-more, complaints-kept, response-new, responses-more}
 
--- a stage at which no φ is due
-before : (r : Run) (f : Tag → List (List ℕ)) (stage : ℕ) → (leb 1 stage && (leb stage 6 && not (eqb stage 5))) ≡ true
-    → (stage < 4 → (f CH ≡ []) × (f RE ≡ [])) → length (f SU) ≡ 1 → (3 < stage → stage < 6 → length (f CH) ≡ 1) → Counts stage (r .setup) (r .dealings) (r .complaints) → AtStage stage r f
-before r f stage e none one some counts =
+-- a stage that no CH leads to: 1, 2, 3 or 6
+waits : (g : ℕ) → (leb 1 g && (leb g 3 || eqb g 6)) ≡ true → (0 < g) × (g ≤ 6) × (3 < g → g ≡ 6)
+waits g e = go (leb g 3) refl (and-right (leb 1 g) _ e)
+  where
+    pos : 0 < g
+    pos = leb-true 1 g (and-left (leb 1 g) _ e)
+
+    go : (b : Bool) → leb g 3 ≡ b → (b || eqb g 6) ≡ true → (0 < g) × (g ≤ 6) × (3 < g → g ≡ 6)
+    go true d x = let l : g ≤ 3 = leb-true g 3 d in (pos, omega arith, λ m. omega arith)
+    go false d x = let six : g ≡ 6 = eqb-true g 6 x in (pos, omega arith, λ m. six)
+
+waiting : (r : Run) (f : Tag → List (List ℕ)) → (f CH ≡ []) × (f RE ≡ []) → length (f SU) ≡ 1 → (stage : ℕ) → (leb 1 stage && (leb stage 3 || eqb stage 6)) ≡ true
+    → Counts stage (r .setup) (r .dealings) (r .complaints) → AtStage stage r f
+waiting r f none one stage e counts =
+    let w = waits stage e in
     record {
-      stage-pos = leb-true 1 stage (and-left (leb 1 stage) _ e);
-      stage-max = leb-true stage 6 (and-left (leb stage 6) _ (and-right (leb 1 stage) _ e));
+      stage-pos = w .0;
+      stage-max = w .1;
       counts = counts;
-      early = none;
+      early = λ l. none;
       one-setup = one;
-      challenged = some;
-      done = λ d. absurd (eqb-false stage 5 (not-yes _ (and-right (leb stage 6) _ (and-right (leb 1 stage) _ e))) d);
+      challenged = λ l m. absurd (omega (arith, w .2 l));
+      done = λ d. absurd (omega (arith, w .2 (omega arith)));
+    }
+
+-- stage 4
+at-four : (r : Run) (f : Tag → List (List ℕ)) → length (f SU) ≡ 1 → length (f CH) ≡ 1 → Counts 4 (r .setup) (r .dealings) (r .complaints) → AtStage 4 r f
+at-four r f one sent counts =
+    record {
+      stage-pos = omega arith;
+      stage-max = omega arith;
+      counts = counts;
+      early = λ l. absurd (omega arith);
+      one-setup = one;
+      challenged = λ l m. sent;
+      done = λ d. absurd (omega arith);
     }
 
 -- no CH was accepted: the stage is not 4
@@ -60,7 +84,7 @@ setup-live s e =
       responses = no-responses _;
       rows = tt;
       signatures-size = length-filled 512 (scalar 0);
-      stage = before _ _ 1 refl (λ l. (refl, refl)) refl (λ l m. omega arith) (record {
+      stage = waiting _ _ (refl, refl) refl 1 refl (record {
         dealing = λ z. omega arith;
         dealt = λ z. omega arith;
         complaining = λ z. omega arith;
@@ -78,7 +102,7 @@ dealing-live r s f g e h =
     let c = dealing-new r s e in
     let b = live-bounds r f h in
     let none = h .stage .early (omega arith) in
-    let at = before (afterDealing r s) (more DE s f) in
+    let at = waiting (afterDealing r s) (more DE s f) none (h .stage .one-setup) in
     record {
       setup = h .setup;
       dealings = dealings-more (r .setup) (r .dealings) s (f DE) b (c .1) (h .dealings) (c .0);
@@ -88,8 +112,8 @@ dealing-live r s f g e h =
       rows = rw (none .1) tt;
       signatures-size = h .signatures-size;
       stage = pick-case (λ z. AtStage z (afterDealing r s) (more DE s f)) (eqb (r .dealings .count + 1) (r .setup .n - r .setup .t)) 2 1
-          (λ d. at 2 refl (λ l. none) (h .stage .one-setup) (λ l m. omega arith) (counts 2 (omega arith) (λ z. omega arith) (λ z. eqb-true _ _ d)))
-          (λ d. at 1 refl (λ l. none) (h .stage .one-setup) (λ l m. omega arith) (counts 1 (omega arith) (λ z. omega (arith, few, eqb-false (r .dealings .count + 1) (r .setup .n - r .setup .t) d)) (λ z. omega arith)));
+          (λ d. at 2 refl (counts 2 (omega arith) (λ z. omega arith) (λ z. eqb-true _ _ d)))
+          (λ d. at 1 refl (counts 1 (omega arith) (λ z. omega (arith, few, eqb-false (r .dealings .count + 1) (r .setup .n - r .setup .t) d)) (λ z. omega arith)));
     }
   where
     few : r .dealings .count < r .setup .n - r .setup .t
@@ -114,7 +138,7 @@ unfolding afterComplaint complaintStage withComplaint transcriptOf
 complaint-live r s f g e h =
     let c = complaint-new r s e in
     let none = h .stage .early (omega arith) in
-    let at = before (afterComplaint r s) (more VE s f) in
+    let at = waiting (afterComplaint r s) (more VE s f) none (h .stage .one-setup) in
     record {
       setup = h .setup;
       dealings = h .dealings;
@@ -125,9 +149,9 @@ complaint-live r s f g e h =
       signatures-size = h .signatures-size;
       stage = pick-case (λ z. AtStage z (afterComplaint r s) (more VE s f)) (eqb (r .complaints .count + 1) (r .setup .n - r .setup .t)) _ 2
           (λ d. pick-case (λ z. AtStage z (afterComplaint r s) (more VE s f)) (ltb (r .setup .t) _) 6 3
-          (λ b. at 6 refl (λ l. none) (h .stage .one-setup) (λ l m. omega arith) (counts 6 (omega arith) (λ z. omega arith) (λ z. eqb-true _ _ d) (λ z y. omega arith) (λ z. ltb-true _ _ b)))
-          (λ b. at 3 refl (λ l. none) (h .stage .one-setup) (λ l m. omega arith) (counts 3 (omega arith) (λ z. omega arith) (λ z. eqb-true _ _ d) (λ z y. ltb-false _ _ b) (λ z. omega arith))))
-          (λ d. at 2 refl (λ l. none) (h .stage .one-setup) (λ l m. omega arith) (counts 2 (omega arith) (λ z. omega (arith, few, eqb-false (r .complaints .count + 1) (r .setup .n - r .setup .t) d)) (λ z. omega arith) (λ z y. omega arith) (λ z. omega arith)));
+          (λ b. at 6 refl (counts 6 (omega arith) (λ z. omega arith) (λ z. eqb-true _ _ d) (λ z y. omega arith) (λ z. ltb-true _ _ b)))
+          (λ b. at 3 refl (counts 3 (omega arith) (λ z. omega arith) (λ z. eqb-true _ _ d) (λ z y. ltb-false _ _ b) (λ z. omega arith))))
+          (λ d. at 2 refl (counts 2 (omega arith) (λ z. omega (arith, few, eqb-false (r .complaints .count + 1) (r .setup .n - r .setup .t) d)) (λ z. omega arith) (λ z y. omega arith) (λ z. omega arith)));
     }
   where
     c' : Complaints
@@ -171,7 +195,7 @@ challenges-live r s f g h =
       responses = h .responses;
       rows = rw (none .1) tt;
       signatures-size = h .signatures-size;
-      stage = before _ _ 4 refl (λ l. absurd (omega arith)) (h .stage .one-setup) (λ l m. rw (none .0)) (counts-past (r .setup) (r .dealings) (r .complaints) 3 4 (omega arith) (omega arith) (omega arith) (rw g at (h .stage .counts)));
+      stage = at-four _ _ (h .stage .one-setup) (rw (none .0)) (counts-past (r .setup) (r .dealings) (r .complaints) 3 4 (omega arith) (omega arith) (omega arith) (rw g at (h .stage .counts)));
     }
 
 challenges-few : (r : Run) (s : List ℕ) (f : Tag → List (List ℕ)) → r .stage ≡ 3 → Live r f → Responding (afterChallenges r s)
@@ -192,7 +216,7 @@ row-live r s f g e h =
       responses = responses-more (r .setup) (r .responses) s (f RE) (live-bounds r f h) (c .0) (h .responses);
       rows = all-snoc _ (f RE) s (h .rows) (c .1);
       signatures-size = h .signatures-size;
-      stage = before _ _ 4 refl (λ l. absurd (omega arith)) (h .stage .one-setup) (λ l m. h .stage .challenged (omega arith) (omega arith)) (rw g at (h .stage .counts));
+      stage = at-four _ _ (h .stage .one-setup) (h .stage .challenged (omega arith) (omega arith)) (rw g at (h .stage .counts));
     }
 
 finished-live : (r : Run) (f : Tag → List (List ℕ)) → r .stage ≡ 4 → r .responses .count ≡ quorum (r .setup .t) (r .setup .a) → Live r f → Live (finished r) f
