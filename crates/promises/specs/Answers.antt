@@ -39,6 +39,16 @@ responseValues S.None = []
 
 -- ---- what is claimed
 
+-- of a list of accepted records:
+module _ (l : List (List ℕ)) where
+  -- R(u,k) at stages 3 to 5, at the places of the list
+  unfoldable pub nonceBy : ℕ → ℕ → List Element
+  nonceBy u k = pick ((leb 3 (stageBy l) && leb (stageBy l) 5) && isPlace (read l) u k) (nonce (read l) u k ∷ []) []
+
+  -- φ(u,k) at stage 5, at the places of the list
+  unfoldable pub signatureBy : ℕ → ℕ → List Scalar
+  signatureBy u k = pick (eqb (stageBy l) 5 && isPlace (read l) u k) (phi l u k ∷ []) []
+
 -- HOLD, QUAL and BAD are fixed, and have the members that the accepted records give them
 pub record Fixed (l : List (List ℕ)) : Type 0 where
   pub fixed : setsOf (after l) .fixed ≡ true
@@ -53,16 +63,14 @@ pub record Unfixed (l : List (List ℕ)) : Type 0 where
   pub qual-none : setsOf (after l) .qual ≡ 0
   pub bad-none : setsOf (after l) .bad ≡ 0
 
--- The stage is the one that the accepted records bring. The sets are fixed from stage 3 on. R(u,k) is answered at stages 3 to 5 and φ(u,k) at
--- stage 5, at the places of the list, as they are defined from its accepted records; nothing at other stages or elsewhere.
+-- the stage is the one that the accepted records bring; the sets are fixed from stage 3 on; and R(u,k) and φ(u,k) are answered where they are
+-- due, and nothing elsewhere
 pub record Answers (l : List (List ℕ)) : Type 0 where
   pub stage : stageOf (after l) ≡ stageBy (accepted l)
   pub sets : 3 ≤ stageBy (accepted l) → Fixed l
   pub no-sets : stageBy (accepted l) < 3 → Unfixed l
-  pub nonces : (u k : ℕ) → nonceValues (nonceOf (after l) u k)
-      ≡ pick ((leb 3 (stageBy (accepted l)) && leb (stageBy (accepted l)) 5) && isPlace (read (accepted l)) u k) (nonce (read (accepted l)) u k ∷ []) []
-  pub signatures : (u k : ℕ) → responseValues (signatureOf (after l) u k)
-      ≡ pick (eqb (stageBy (accepted l)) 5 && isPlace (read (accepted l)) u k) (phi (accepted l) u k ∷ []) []
+  pub nonces : (u k : ℕ) → nonceValues (nonceOf (after l) u k) ≡ nonceBy (accepted l) u k
+  pub signatures : (u k : ℕ) → responseValues (signatureOf (after l) u k) ≡ signatureBy (accepted l) u k
 
 -- ---- the proof
 
@@ -110,9 +118,8 @@ module _ (l : List (List ℕ)) where
   unfolding inBatch isPlace transcriptOf
   place-same p u k = let h = made-alike l p in rw (h .n-same, h .t-same, h .a-same)
 
-  nonce-is : (u k : ℕ) → nonceValues (nonceOf (after l) u k)
-      ≡ pick ((leb 3 (stageBy (accepted l)) && leb (stageBy (accepted l)) 5) && isPlace (read (accepted l)) u k) (nonce (read (accepted l)) u k ∷ []) []
-  unfolding nonceOf nonceValues
+  nonce-is : (u k : ℕ) → nonceValues (nonceOf (after l) u k) ≡ nonceBy (accepted l) u k
+  unfolding nonceOf nonceValues nonceBy
   nonce-is u k =
       let g = stageBy (accepted l) in
       pick-map nonceValues ((leb 3 (stageOf (after l)) && leb (stageOf (after l)) 5) && inBatch (after l) u k) (N.Is (nonce (transcriptOf (after l)) u k)) N.None
@@ -123,8 +130,8 @@ module _ (l : List (List ℕ)) where
       live : (leb 3 (stageBy (accepted l)) && leb (stageBy (accepted l)) 5) ≡ true → 0 < after l .stage
       live e = omega (arith, stage-by l, leb-true 3 (stageBy (accepted l)) (and-left _ _ e))
 
-  signature-is : (u k : ℕ) → responseValues (signatureOf (after l) u k) ≡ pick (eqb (stageBy (accepted l)) 5 && isPlace (read (accepted l)) u k) (phi (accepted l) u k ∷ []) []
-  unfolding signatureOf responseValues
+  signature-is : (u k : ℕ) → responseValues (signatureOf (after l) u k) ≡ signatureBy (accepted l) u k
+  unfolding signatureOf responseValues signatureBy
   signature-is u k =
       pick-map responseValues (eqb (stageOf (after l)) 5 && inBatch (after l) u k) (S.Is (kept (after l) u k)) S.None
       ∙ ap (λ (g : ℕ). pick (eqb g 5 && inBatch (after l) u k) (kept (after l) u k ∷ []) []) stage-is
@@ -134,5 +141,6 @@ module _ (l : List (List ℕ)) where
       done : eqb (stageBy (accepted l)) 5 ≡ true → after l .stage ≡ 5
       done e = stage-by l ∙ eqb-true (stageBy (accepted l)) 5 e
 
+-- what the run of every list answers is what its accepted records say
 pub answers : (l : List (List ℕ)) → Answers l
 answers l = record { stage = stage-is l; sets = sets-fixed l; no-sets = sets-unfixed l; nonces = nonce-is l; signatures = signature-is l }
