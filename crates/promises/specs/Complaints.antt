@@ -54,6 +54,11 @@ pub record FalseComplaint (l : List (List ℕ)) (s : List ℕ) : Type 0 where
 
 -- ---- the kept wrong shares are those of the accepted DE
 
+-- no party has the number 0
+has-pos : (m i : ℕ) → has m i ≡ true → 0 < i
+has-pos m zero e = absurd (no-both e (has-none m))
+has-pos m (suc i) e = omega arith
+
 module _ (l : List (List ℕ)) (p : 0 < after l .stage) where
   dealer-is : (i : ℕ) → has (after l .dealings .dealers) i ≡ dealer (accepted l) i
   unfolding dealer
@@ -69,12 +74,13 @@ module _ (l : List (List ℕ)) (p : 0 < after l .stage) where
 
   wronged-is : (j i : ℕ) → 0 < j → j ≤ after l .setup .n → mayBlame (after l .dealings) j i ≡ wronged (accepted l) j i
   unfolding mayBlame wronged
-  wronged-is j zero k m = rw (← dealer-is 0, has-none)
-  wronged-is j (suc i) k m = go (dealer (accepted l) (suc i)) refl
+  wronged-is j i k m = go (dealer (accepted l) i) refl
     where
-      go : (b : Bool) → dealer (accepted l) (suc i) ≡ b → (has (after l .dealings .dealers) (suc i) && has (getD (after l .dealings .wrong) (suc i - 1) 0) j) ≡ wronged (accepted l) j (suc i)
-      go true e = ap₂ _&&_ (dealer-is (suc i)) (wrong-shares (suc i) j (omega arith) k m e)
-      go false e = rw (dealer-is (suc i), e)
+      go : (b : Bool) → dealer (accepted l) i ≡ b → mayBlame (after l .dealings) j i ≡ wronged (accepted l) j i
+      go true e = ap₂ _&&_ (dealer-is i) (wrong-shares i j (has-pos _ i (dealer-is i ∙ e)) k m e)
+      go false e =
+          ap (λ (b : Bool). b && has (getD (after l .dealings .wrong) (i - 1) 0) j) (dealer-is i ∙ e)
+          ∙ sym (ap (λ (b : Bool). b && not (shareValid (accepted l) i j)) e)
 
   -- no dealer is above n
   dealer-max : (i : ℕ) → has (after l .dealings .dealers) i ≡ true → i ≤ after l .setup .n
@@ -95,11 +101,6 @@ module _ (l : List (List ℕ)) (p : 0 < after l .stage) where
           absent true e = absurd (omega (arith, dealer-max (suc i) e))
           absent false e = refl
       go (no k) = has-maskOf (after l .setup .n) (mayBlame (after l .dealings) j) (suc i) (omega arith) (omega arith)
-
--- no party has the number 0
-has-pos : (m i : ℕ) → has m i ≡ true → 0 < i
-has-pos m zero e = absurd (no-both e (has-none m))
-has-pos m (suc i) e = omega arith
 
 -- ---- what is refused with 13
 

@@ -86,12 +86,25 @@ module _ (l : List (List ℕ)) where
   phi u k =
       scalarAt (λ i. party (sender (getD (ofTag RE l) i []))) (length (ofTag RE l)) (λ i. scalar (word (getD (ofTag RE l) i []) 4 (u - 1))) (slot k)
 
-  -- the stage: n-t DE end stage 1, n-t VE stage 2, a CH stage 3 and need RE stage 4; more than t dealers in BAD make it 6
+  -- no SU; fewer than n-t DE; fewer than n-t VE; more than t dealers in BAD; no CH; fewer than need RE
+  unfoldable pub unset : Bool
+  unset = eqb (length (ofTag SU l)) 0
+
+  unfoldable pub dealing : Bool
+  dealing = ltb (length (ofTag DE l)) (read .n - read .t)
+
+  unfoldable pub complaining : Bool
+  complaining = ltb (length (ofTag VE l)) (read .n - read .t)
+
+  unfoldable pub stopped : Bool
+  stopped = ltb (read .t) (count (read .n) bad)
+
+  unfoldable pub unchallenged : Bool
+  unchallenged = eqb (length (ofTag CH l)) 0
+
+  unfoldable pub responding : Bool
+  responding = ltb (length (ofTag RE l)) (quorum (read .t) (read .a))
+
+  -- the stage that they bring
   unfoldable pub stageBy : ℕ
-  stageBy =
-      pick (eqb (length (ofTag SU l)) 0) 0
-      (pick (ltb (length (ofTag DE l)) (read .n - read .t)) 1
-      (pick (ltb (length (ofTag VE l)) (read .n - read .t)) 2
-      (pick (ltb (read .t) (count (read .n) bad)) 6
-      (pick (eqb (length (ofTag CH l)) 0) 3
-      (pick (ltb (length (ofTag RE l)) (quorum (read .t) (read .a))) 4 5)))))
+  stageBy = pick unset 0 (pick dealing 1 (pick complaining 2 (pick stopped 6 (pick unchallenged 3 (pick responding 4 5)))))
