@@ -30,7 +30,7 @@ use Rattle.run.specs.Runs.{noSetup, wellFormed, stageOf, transcriptOf, phiOf}
 use Rattle.run.specs.Steps.{setupOf, wrongShares}
 use Rattle.promises.specs.Lists.{ofTag, first, some, sentBy, recordOf}
 use Rattle.promises.specs.ListLaws.{recordOf-all}
-use Rattle.promises.specs.Senders.{Senders, Slots, senders-max}
+use Rattle.promises.specs.Senders.{Senders, Slots, Marks, senders-max}
 
 -- ---- what the run has, named once
 
@@ -55,7 +55,7 @@ pub record DealingsOf (setup : Setup) (d : Dealings) (l : List (List ℕ)) : Typ
   pub wrong-size : length (d .wrong) ≡ 32
   pub senders : Senders (setup .n) (d .count) (d .dealers) l
   pub slots : Slots element filler (quorum (setup .t) (setup .a)) (d .commitments) l
-  pub wrong-is : (i : ℕ) → 0 < i → sentBy i l ≡ true → getD (d .wrong) (i - 1) 0 ≡ wrongShares setup (recordOf i l)
+  pub wrong-is : Marks (wrongShares setup) (d .wrong) l
   pub admitted : All (λ s. dealingRefusal (setup .n) (setup .t) (setup .a) s ≡ 0) l
 
 -- l holds the accepted VE; only accepted dealers are blamed

@@ -5,8 +5,7 @@ use mathlib.Core.List.{List, []}
 use Prim.Native.Nat.{ℕ, _+_, _-_, _^_, _≤_, _<_}
 use native.Mathlib.Omega.{arith}
 use native.Mathlib.Decide.{decLt}
-use lib.ListN.{getD, set, length-set}
-use lib.Seq.{getD-set-same, getD-set-other}
+use lib.ListN.{length-set}
 use lib.Dec.{eqb, leb}
 use borrow.Author.Tests.{eqb-true, eqb-false, leb-true}
 use Rattle.lists.specs.Tests.{pick, allTo, all-at, no-both, not-yes, and-left, passed}
@@ -26,9 +25,9 @@ use Rattle.run.specs.declared.Responses.{Responses}
 use Rattle.run.specs.declared.Run.{Run}
 use Rattle.run.specs.Runs.{noDealings, noComplaints, noResponses, transcriptOf}
 use Rattle.run.specs.Steps.{orNext, dealingNumber, wrongShares, withDealing, mayBlame, complaintNumber, withComplaint, responseNumber, withResponse}
-use Rattle.promises.specs.Lists.{some, sentBy, recordOf}
-use Rattle.promises.specs.ListLaws.{snoc, some-snoc, sentBy-other}
-use Rattle.promises.specs.Senders.{New, senders-none, slots-none, senders-more, recordOf-case, slots-more}
+use Rattle.promises.specs.Lists.{some}
+use Rattle.promises.specs.ListLaws.{snoc, some-snoc}
+use Rattle.promises.specs.Senders.{New, senders-none, slots-none, marks-none, senders-more, slots-more, marks-more}
 use Rattle.promises.specs.Invariant.{filler, badMask, DealingsOf, ComplaintsOf, ResponsesOf, Row}
 
 -- no refusal: none before, and none after
@@ -50,7 +49,7 @@ no-dealings setup =
       wrong-size = length-filled {A = ℕ} 32 0;
       senders = senders-none (setup .n);
       slots = slots-none element filler (quorum (setup .t) (setup .a)) (noDealings .commitments);
-      wrong-is = λ i p e. absurd (no-both refl (sym e));
+      wrong-is = marks-none (wrongShares setup) (noDealings .wrong);
       admitted = tt;
     }
 
@@ -78,12 +77,6 @@ dealing-new r s e =
     (c .0, record { sender-pos = p .sender-pos; sender-max = p .sender-max; unsent = not-yes _ (passed _ 12 0 (c .1) (omega arith) .0) })
 
 module _ (setup : Setup) (d : Dealings) (s : List ℕ) (l : List (List ℕ)) (b : Bounds (setup .n) (setup .t) (setup .a)) (c : New (setup .n) (d .dealers) s) (h : DealingsOf setup d l) where
-  wrong-more : (i : ℕ) → 0 < i → sentBy i (snoc l s) ≡ true → getD (set (d .wrong) (sender s - 1) (wrongShares setup s)) (i - 1) 0 ≡ wrongShares setup (recordOf i (snoc l s))
-  wrong-more i p e =
-      recordOf-case s (b .n-max) c (h .senders) (λ z. getD (set (d .wrong) (sender s - 1) (wrongShares setup s)) (i - 1) 0 ≡ wrongShares setup z) i
-      (λ own. rw (← own) (getD-set-same (d .wrong) (sender s - 1) (wrongShares setup s) 0 (omega arith)))
-      (λ other. getD-set-other (d .wrong) (sender s - 1) (i - 1) (wrongShares setup s) 0 (omega arith) ∙ h .wrong-is i p (sym (sentBy-other i l s other) ∙ e))
-
   pub dealings-more : dealingRefusal (setup .n) (setup .t) (setup .a) s ≡ 0 → DealingsOf setup (withDealing setup d s) (snoc l s)
   unfolding withDealing
   dealings-more e =
@@ -92,7 +85,7 @@ module _ (setup : Setup) (d : Dealings) (s : List ℕ) (l : List (List ℕ)) (b 
         wrong-size = length-set (d .wrong) _ _ ∙ h .wrong-size;
         senders = senders-more s (b .n-max) c (h .senders);
         slots = slots-more s (b .n-max) c (h .senders) element filler _ (d .commitments) (omega (arith, quorum-max b)) (h .commitments-size) (h .slots);
-        wrong-is = wrong-more;
+        wrong-is = marks-more s (b .n-max) c (h .senders) (wrongShares setup) (d .wrong) (h .wrong-size) (h .wrong-is);
         admitted = all-snoc _ l s (h .admitted) e;
       }
 

@@ -3,10 +3,11 @@ use mathlib.Core.Path.{_≡_, refl, sym, ap, ap₂, _∙_}
 use mathlib.Core.Logic.{_≢_}
 use mathlib.Core.Bool.{Bool, true, false, _||_}
 use mathlib.Core.List.{List, [], _∷_}
-use Prim.Native.Nat.{ℕ, suc, _+_, _≤_, _<_}
+use Prim.Native.Nat.{ℕ, suc, _+_, _-_, _≤_, _<_}
 use native.Mathlib.Omega.{arith}
 use native.Mathlib.Numerals.{add-one}
-use lib.ListN.{length, getD, length-append}
+use lib.ListN.{length, getD, set, length-append}
+use lib.Seq.{getD-set-same, getD-set-other}
 use lib.Dec.{eqb}
 use borrow.Author.Tests.{eqb-true, eqb-false, eq-eqb, ne-eqb}
 use Rattle.lists.specs.Tests.{no-both}
@@ -38,6 +39,10 @@ pub record New (n mask : ℕ) (s : List ℕ) : Type 0 where
 abbrev pub Slots : {A : Type 0} → (ℕ → A) → A → ℕ → List A → List (List ℕ) → Type 0
 Slots make filler width kept l = (i v : ℕ) → 0 < i → v < width → sentBy i l ≡ true → getD kept (base i + v) filler ≡ make (word (recordOf i l) 4 v)
 
+-- of the record of each party that has one, a mark is kept at its number
+abbrev pub Marks : (List ℕ → ℕ) → List ℕ → List (List ℕ) → Type 0
+Marks mark kept l = (i : ℕ) → 0 < i → sentBy i l ≡ true → getD kept (i - 1) 0 ≡ mark (recordOf i l)
+
 -- ---- no record
 
 pub senders-none : (n : ℕ) → Senders n 0 0 []
@@ -47,6 +52,10 @@ senders-none n = record { number-is = refl; members-are = sym (no-members (has 0
 pub slots-none : {A : Type 0} (make : ℕ → A) (filler : A) (width : ℕ) (kept : List A) → Slots make filler width kept []
 unfolding some
 slots-none make filler width kept i v p l e = absurd (no-both e refl)
+
+pub marks-none : (mark : List ℕ → ℕ) (kept : List ℕ) → Marks mark kept []
+unfolding some
+marks-none mark kept i p e = absurd (no-both e refl)
 
 pub senders-max : {n number mask : ℕ} {l : List (List ℕ)} → Senders n number mask l → number ≤ n
 senders-max {n} {number} {mask} h = omega (arith, h .members-are, count-le n (has mask))
@@ -91,7 +100,7 @@ module _ {n number mask : ℕ} {l : List (List ℕ)} (s : List ℕ) (n-max : n �
       }
 
   -- a party's record is s, or is as it was
-  pub recordOf-case : (P : List ℕ → Type 0) (i : ℕ) → (sender s ≡ i → P s) → (sender s ≢ i → P (recordOf i l)) → P (recordOf i (snoc l s))
+  recordOf-case : (P : List ℕ → Type 0) (i : ℕ) → (sender s ≡ i → P s) → (sender s ≢ i → P (recordOf i l)) → P (recordOf i (snoc l s))
   recordOf-case P i own other = go (eqb (sender s) i) refl
     where
       go : (b : Bool) → eqb (sender s) i ≡ b → P (recordOf i (snoc l s))
@@ -105,3 +114,9 @@ module _ {n number mask : ℕ} {l : List (List ℕ)} (s : List ℕ) (n-max : n �
       (λ own. rw (← own) (stored-at kept (base (sender s)) width _ filler (omega (arith, slot-fits (sender s) width (omega arith) width-max)) v d))
       (λ other. stored-other kept (base (sender s)) width _ filler (base i + v) (λ x y e. other (sym (slots-apart i (sender s) v x p (c .sender-pos) (omega arith) (omega arith) e)))
       ∙ slots i v p d (sym (sentBy-other i l s other) ∙ sent))
+
+  pub marks-more : (mark : List ℕ → ℕ) (kept : List ℕ) → length kept ≡ 32 → Marks mark kept l → Marks mark (set kept (sender s - 1) (mark s)) (snoc l s)
+  marks-more mark kept size marks i p sent =
+      recordOf-case (λ z. getD (set kept (sender s - 1) (mark s)) (i - 1) 0 ≡ mark z) i
+      (λ own. rw (← own) (getD-set-same kept (sender s - 1) (mark s) 0 (omega arith)))
+      (λ other. getD-set-other kept (sender s - 1) (i - 1) (mark s) 0 (omega arith) ∙ marks i p (sym (sentBy-other i l s other) ∙ sent))
