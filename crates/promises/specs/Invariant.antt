@@ -62,7 +62,7 @@ pub record DealingsOf (setup : Setup) (d : Dealings) (l : List (List ℕ)) : Typ
 pub record ComplaintsOf (setup : Setup) (dealers : ℕ) (c : Complaints) (l : List (List ℕ)) : Type 0 where
   pub senders : Senders (setup .n) (c .count) (c .holders) l
   pub blamed-is : (i : ℕ) → has (badMask (setup .n) c) i ≡ some (λ s. has (numberAt s 4) i) l
-  pub founded : (i : ℕ) → has (badMask (setup .n) c) i ≡ true → has dealers i ≡ true
+  pub founded : All (λ s. (i : ℕ) → has (numberAt s 4) i ≡ true → has dealers i ≡ true) l
 
 -- s is the accepted CH; empty before there is one, and then every number is 0
 pub record ChallengesOf (setup : Setup) (kept : List Scalar) (s : List ℕ) : Type 0 where

@@ -9,7 +9,7 @@ use lib.ListN.{length-set}
 use lib.Dec.{eqb, leb}
 use borrow.Author.Tests.{eqb-true, eqb-false, leb-true}
 use Rattle.lists.specs.Tests.{pick, allTo, all-at, no-both, not-yes, and-left, passed}
-use Rattle.lists.specs.Members.{all-snoc}
+use Rattle.lists.specs.Members.{all-map, all-snoc}
 use Rattle.lists.specs.Stores.{length-stored, length-filled}
 use Rattle.sets.specs.Masks.{has, insert}
 use Rattle.sets.specs.MaskLaws.{has-zero, has-or, has-insert, has-above}
@@ -55,7 +55,7 @@ no-dealings setup =
 
 pub no-complaints : (setup : Setup) (dealers : ℕ) → ComplaintsOf setup dealers noComplaints []
 unfolding noComplaints some
-no-complaints setup dealers = record { senders = senders-none (setup .n); blamed-is = has-zero; founded = λ i e. absurd (no-both e (has-zero i)) }
+no-complaints setup dealers = record { senders = senders-none (setup .n); blamed-is = has-zero; founded = tt }
 
 pub no-responses : (setup : Setup) → ResponsesOf setup noResponses []
 unfolding noResponses
@@ -98,7 +98,7 @@ complaints-kept setup dealers c s l b new h =
     record {
       senders = h .senders;
       blamed-is = h .blamed-is;
-      founded = λ i e. rw (has-insert dealers (sender s) i (new .sender-pos) (omega arith), h .founded i e);
+      founded = all-map _ _ (λ x f i e. rw (has-insert dealers (sender s) i (new .sender-pos) (omega arith), f i e)) l (h .founded);
     }
 
 -- a mask that passes blames accepted dealers alone
@@ -134,15 +134,11 @@ complaints-more setup dealers c s l b new blames h =
     record {
       senders = senders-more s b new (h .senders);
       blamed-is = λ i. more i ∙ ap (λ (z : Bool). z || has (numberAt s 4) i) (h .blamed-is i) ∙ sym (some-snoc (λ x. has (numberAt x 4) i) l s);
-      founded = λ i e. go i (has (badMask (setup .n) c) i) refl (sym (more i) ∙ e);
+      founded = all-snoc _ l s (h .founded) blames;
     }
   where
     more : (i : ℕ) → has (badMask (setup .n) (withComplaint c s)) i ≡ (has (badMask (setup .n) c) i || has (numberAt s 4) i)
     more i = has-or (badMask (setup .n) c) (numberAt s 4) i
-
-    go : (i : ℕ) (b : Bool) → has (badMask (setup .n) c) i ≡ b → (b || has (numberAt s 4) i) ≡ true → has dealers i ≡ true
-    go i true d e = h .founded i d
-    go i false d e = blames i e
 
 -- ---- RE
 

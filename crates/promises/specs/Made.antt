@@ -20,6 +20,7 @@ use Rattle.protocol.specs.Arrays.{cell}
 use Rattle.run.specs.Runs.{wellFormed, stageOf, transcriptOf}
 use Rattle.run.specs.Steps.{setupOf, after}
 use Rattle.promises.specs.Lists.{accepted, ofTag, first, dealer, hold, bad, qualified, read}
+use Rattle.promises.specs.ListLaws.{some-all}
 use Rattle.promises.specs.Places.{cell-lt}
 use Rattle.promises.specs.Invariant.{badMask, Live, key-is, key-element, commitment-element, live-bounds, live-well-formed, stage-of}
 use Rattle.promises.specs.InvariantSteps.{invariant-after}
@@ -59,8 +60,10 @@ module _ (l : List (List ℕ)) (p : 0 < after l .stage) where
   pub made-bad : (i : ℕ) → has (badMask (after l .setup .n) (after l .complaints)) i ≡ bad (accepted l) i
   unfolding bad dealer
   made-bad i =
-      within (has (badMask (after l .setup .n) (after l .complaints)) i) (has (after l .dealings .dealers) i) (made-live .complaints .founded i)
-      ∙ ap₂ _&&_ (made-live .dealings .senders .mask-is i) (made-live .complaints .blamed-is i)
+      let blamed = made-live .complaints .blamed-is i in
+      within (has (badMask (after l .setup .n) (after l .complaints)) i) (has (after l .dealings .dealers) i)
+      (λ e. let w = some-all _ _ _ (made-live .complaints .founded) (sym blamed ∙ e) in w .2 i (w .1))
+      ∙ ap₂ _&&_ (made-live .dealings .senders .mask-is i) blamed
 
   pub made-qual : (i : ℕ) → (has (after l .dealings .dealers) i && not (has (badMask (after l .setup .n) (after l .complaints)) i)) ≡ qualified (accepted l) i
   unfolding qualified dealer
