@@ -25,6 +25,7 @@ use Rattle.writers.specs.Writers.{complaintBytes}
 use Rattle.writers.specs.Accepted.{complaint-mask}
 use Rattle.promises.specs.Lists.{accepted, ofTag, sentBy, recordOf, dealer, hold, read, stageBy}
 use Rattle.promises.specs.ListLaws.{recordOf-all, recordOf-sender}
+use Rattle.promises.specs.Senders.{has-pos}
 use Rattle.promises.specs.Made.{made-live, made-well-formed, made-hold, made-alike}
 use Rattle.promises.specs.Stages.{stage-by}
 use Rattle.promises.specs.Answers.{answers}
@@ -53,11 +54,6 @@ pub record FalseComplaint (l : List (List ℕ)) (s : List ℕ) : Type 0 where
   pub unfounded : wronged (accepted l) (sender s) blamed ≡ false
 
 -- ---- the kept wrong shares are those of the accepted DE
-
--- no party has the number 0
-has-pos : (m i : ℕ) → has m i ≡ true → 0 < i
-has-pos m zero e = absurd (no-both e (has-none m))
-has-pos m (suc i) e = omega arith
 
 module _ (l : List (List ℕ)) (p : 0 < after l .stage) where
   dealer-is : (i : ℕ) → has (after l .dealings .dealers) i ≡ dealer (accepted l) i

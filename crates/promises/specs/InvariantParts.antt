@@ -6,8 +6,8 @@ use Prim.Native.Nat.{ℕ, _+_, _-_, _^_, _≤_, _<_}
 use native.Mathlib.Omega.{arith}
 use native.Mathlib.Decide.{decLt}
 use lib.ListN.{length-set}
-use lib.Dec.{eqb, leb}
-use borrow.Author.Tests.{eqb-true, eqb-false, leb-true}
+use lib.Dec.{eqb}
+use borrow.Author.Tests.{eqb-true, eqb-false}
 use Rattle.lists.specs.Tests.{pick, allTo, all-at, no-both, not-yes, and-left, passed}
 use Rattle.lists.specs.Members.{all-map, all-snoc}
 use Rattle.lists.specs.Stores.{length-stored, length-filled}
@@ -27,7 +27,7 @@ use Rattle.run.specs.Runs.{noDealings, noComplaints, noResponses, transcriptOf}
 use Rattle.run.specs.Steps.{orNext, dealingNumber, wrongShares, withDealing, mayBlame, complaintNumber, withComplaint, responseNumber, withResponse}
 use Rattle.promises.specs.Lists.{some}
 use Rattle.promises.specs.ListLaws.{snoc, some-snoc}
-use Rattle.promises.specs.Senders.{New, senders-none, slots-none, marks-none, senders-more, slots-more, marks-more}
+use Rattle.promises.specs.Senders.{New, has-pos, senders-none, slots-none, marks-none, senders-more, slots-more, marks-more}
 use Rattle.promises.specs.Invariant.{filler, badMask, DealingsOf, ComplaintsOf, ResponsesOf, Row}
 
 -- no refusal: none before, and none after
@@ -104,11 +104,11 @@ complaints-kept setup dealers c s l b new h =
 -- a mask that passes blames accepted dealers alone
 blames-dealers : (n j mask : ℕ) (d : Dealings) → mask < 2 ^ n → allTo n (λ i. not (has mask (i + 1)) || mayBlame d j (i + 1)) ≡ true
     → (i : ℕ) → has mask i ≡ true → has (d .dealers) i ≡ true
-unfolding has mayBlame
+unfolding mayBlame
 blames-dealers n j mask d l e i h = and-left (has (d .dealers) i) _ (go (decLt n i))
   where
     pos : 0 < i
-    pos = leb-true 1 i (and-left (leb 1 i) _ h)
+    pos = has-pos mask i h
 
     back : i - 1 + 1 ≡ i
     back = omega (arith, pos)

@@ -3,7 +3,7 @@ use mathlib.Core.Path.{_≡_, refl, sym, ap, ap₂, _∙_}
 use mathlib.Core.Logic.{_≢_}
 use mathlib.Core.Bool.{Bool, true, false, _||_}
 use mathlib.Core.List.{List, [], _∷_}
-use Prim.Native.Nat.{ℕ, suc, _+_, _-_, _≤_, _<_}
+use Prim.Native.Nat.{ℕ, zero, suc, _+_, _-_, _≤_, _<_}
 use native.Mathlib.Omega.{arith}
 use native.Mathlib.Numerals.{add-one}
 use lib.ListN.{length, getD, set, length-append}
@@ -14,7 +14,7 @@ use Rattle.lists.specs.Tests.{no-both}
 use Rattle.lists.specs.Members.{All, all-snoc, Distinct, distinct-snoc}
 use Rattle.lists.specs.Stores.{stored, stored-at, stored-other}
 use Rattle.sets.specs.Masks.{has, insert, count}
-use Rattle.sets.specs.MaskLaws.{has-zero, has-insert}
+use Rattle.sets.specs.MaskLaws.{has-none, has-zero, has-insert}
 use Rattle.sets.specs.MemberLaws.{no-members, more-members, count-le}
 use Rattle.records.specs.Bytes.{word, sender}
 use Rattle.protocol.specs.Arrays.{base}
@@ -42,6 +42,11 @@ Slots make filler width kept l = (i v : ℕ) → 0 < i → v < width → sentBy 
 -- of the record of each party that has one, a mark is kept at its number
 abbrev pub Marks : (List ℕ → ℕ) → List ℕ → List (List ℕ) → Type 0
 Marks mark kept l = (i : ℕ) → 0 < i → sentBy i l ≡ true → getD kept (i - 1) 0 ≡ mark (recordOf i l)
+
+-- no party has the number 0
+pub has-pos : (m i : ℕ) → has m i ≡ true → 0 < i
+has-pos m zero e = absurd (no-both e (has-none m))
+has-pos m (suc i) e = omega arith
 
 -- ---- no record
 
