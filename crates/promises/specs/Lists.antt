@@ -86,22 +86,27 @@ module _ (l : List (List ℕ)) where
   phi u k =
       scalarAt (λ i. party (sender (getD (ofTag RE l) i []))) (length (ofTag RE l)) (λ i. scalar (word (getD (ofTag RE l) i []) 4 (u - 1))) (slot k)
 
-  -- no SU; fewer than n-t DE; fewer than n-t VE; more than t dealers in BAD; no CH; fewer than need RE
+  -- no SU yet
   unfoldable pub unset : Bool
   unset = eqb (length (ofTag SU l)) 0
 
+  -- fewer than n-t DE
   unfoldable pub dealing : Bool
   dealing = ltb (length (ofTag DE l)) (read .n - read .t)
 
+  -- fewer than n-t VE
   unfoldable pub complaining : Bool
   complaining = ltb (length (ofTag VE l)) (read .n - read .t)
 
+  -- more than t dealers in BAD
   unfoldable pub stopped : Bool
   stopped = ltb (read .t) (count (read .n) bad)
 
+  -- no CH yet
   unfoldable pub unchallenged : Bool
   unchallenged = eqb (length (ofTag CH l)) 0
 
+  -- fewer than need RE
   unfoldable pub responding : Bool
   responding = ltb (length (ofTag RE l)) (quorum (read .t) (read .a))
 
