@@ -98,7 +98,7 @@ module _ (l : List (List ℕ)) (e : after l .stage ≡ 5) where
     unfolding transcriptOf
     kept-passes j p c =
         let sent : sentBy j rows ≡ true = sym (live .responses .senders .mask-is j) ∙ c in
-        ap (raise generator) (live .responses .slots j (u - 1) p (omega (arith, within .u-pos, within .u-max)))
+        ap (raise generator) (live .responses .slots j (u - 1) p (omega (arith, within .u-pos, within .u-max)) sent)
         ∙ row-passes w _ (recordOf j rows) (recordOf-all j _ rows (live .rows) sent) u (within .u-pos) (within .u-max)
         ∙ ap (λ (x : ℕ). responseAt w u (party x)) (recordOf-sender j rows sent)
 

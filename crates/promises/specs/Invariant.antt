@@ -10,8 +10,9 @@ use borrow.Author.Tests.{eqb-true, eqb-false, le-leb}
 use Rattle.lists.specs.Tests.{pick, pick-case}
 use Rattle.lists.specs.Members.{All}
 use Rattle.lists.specs.Stores.{stored-from, length-filled}
-use Rattle.sets.specs.Masks.{has}
+use Rattle.sets.specs.Masks.{has, count}
 use Rattle.field.specs.declared.Scalar.{Scalar}
+use Rattle.field.specs.declared.Element.{Element}
 use Rattle.field.specs.Definitions.{scalar, element, IsElement}
 use Rattle.protocol.specs.Transcript.{Transcript, passes}
 use Rattle.records.specs.Parameters.{quorum, batch}
@@ -29,7 +30,17 @@ use Rattle.run.specs.Runs.{noSetup, wellFormed, stageOf, transcriptOf, phiOf}
 use Rattle.run.specs.Steps.{setupOf, wrongShares}
 use Rattle.promises.specs.Lists.{ofTag, first, some, sentBy, recordOf}
 use Rattle.promises.specs.ListLaws.{recordOf-all}
-use Rattle.promises.specs.Senders.{Senders, Slots, senders-max}
+use Rattle.promises.specs.Senders.{Senders, Slots, Marks, senders-max}
+
+-- ---- what the run has, named once
+
+-- what an array of elements holds where none was stored
+abbrev pub filler : Element
+filler = element 0
+
+-- BAD as a mask, of n dealers
+abbrev pub badMask : ℕ → Complaints → ℕ
+badMask n c = c .blamed
 
 -- ---- the parts
 
@@ -43,15 +54,15 @@ pub record DealingsOf (setup : Setup) (d : Dealings) (l : List (List ℕ)) : Typ
   pub commitments-size : length (d .commitments) ≡ 1024
   pub wrong-size : length (d .wrong) ≡ 32
   pub senders : Senders (setup .n) (d .count) (d .dealers) l
-  pub slots : Slots element (quorum (setup .t) (setup .a)) (d .commitments) l
-  pub wrong-is : (i : ℕ) → 0 < i → sentBy i l ≡ true → getD (d .wrong) (i - 1) 0 ≡ wrongShares setup (recordOf i l)
+  pub slots : Slots element filler (quorum (setup .t) (setup .a)) (d .commitments) l
+  pub wrong-is : Marks (wrongShares setup) (d .wrong) l
   pub admitted : All (λ s. dealingRefusal (setup .n) (setup .t) (setup .a) s ≡ 0) l
 
 -- l holds the accepted VE; only accepted dealers are blamed
 pub record ComplaintsOf (setup : Setup) (dealers : ℕ) (c : Complaints) (l : List (List ℕ)) : Type 0 where
   pub senders : Senders (setup .n) (c .count) (c .holders) l
-  pub blamed-is : (i : ℕ) → has (c .blamed) i ≡ some (λ s. has (numberAt s 4) i) l
-  pub founded : (i : ℕ) → has (c .blamed) i ≡ true → has dealers i ≡ true
+  pub blamed-is : (i : ℕ) → has (badMask (setup .n) c) i ≡ some (λ s. has (numberAt s 4) i) l
+  pub founded : All (λ s. (i : ℕ) → has (numberAt s 4) i ≡ true → has dealers i ≡ true) l
 
 -- s is the accepted CH; empty before there is one, and then every number is 0
 pub record ChallengesOf (setup : Setup) (kept : List Scalar) (s : List ℕ) : Type 0 where
@@ -62,7 +73,7 @@ pub record ChallengesOf (setup : Setup) (kept : List Scalar) (s : List ℕ) : Ty
 pub record ResponsesOf (setup : Setup) (p : Responses) (l : List (List ℕ)) : Type 0 where
   pub numbers-size : length (p .numbers) ≡ 1024
   pub senders : Senders (setup .n) (p .count) (p .responders) l
-  pub slots : Slots scalar (batch (setup .n) (setup .t)) (p .numbers) l
+  pub slots : Slots scalar (scalar 0) (batch (setup .n) (setup .t)) (p .numbers) l
 
 -- a response row of a member of HOLD, whose numbers pass
 pub record Row (w : Transcript) (holders : ℕ) (s : List ℕ) : Type 0 where
@@ -74,11 +85,23 @@ pub record Done (r : Run) : Type 0 where
   pub full : r .responses .count ≡ quorum (r .setup .t) (r .setup .a)
   pub signatures : (x : ℕ) → x < r .setup .a * batch (r .setup .n) (r .setup .t) → getD (r .signatures) x (scalar 0) ≡ phiOf r (x / r .setup .a + 1) (x % r .setup .a + 1)
 
+-- n-t dealings end stage 1, n-t complaint rows stage 2; and more than t dealers are in BAD at stage 6 alone
+pub record Counts (stage : ℕ) (setup : Setup) (d : Dealings) (c : Complaints) : Type 0 where
+  pub dealing : stage ≡ 1 → d .count < setup .n - setup .t
+  pub dealt : 1 < stage → d .count ≡ setup .n - setup .t
+  pub complaining : stage ≤ 2 → c .count < setup .n - setup .t
+  pub complained : 2 < stage → c .count ≡ setup .n - setup .t
+  pub few-bad : 2 < stage → stage < 6 → count (setup .n) (has (badMask (setup .n) c)) ≤ setup .t
+  pub many-bad : stage ≡ 6 → setup .t < count (setup .n) (has (badMask (setup .n) c))
+
 -- what the stage says; f holds the accepted records of each tag
 pub record AtStage (stage : ℕ) (r : Run) (f : Tag → List (List ℕ)) : Type 0 where
   pub stage-pos : 0 < stage
   pub stage-max : stage ≤ 6
+  pub counts : Counts stage (r .setup) (r .dealings) (r .complaints)
   pub early : stage < 4 → (f CH ≡ []) × (f RE ≡ [])
+  pub one-setup : length (f SU) ≡ 1
+  pub challenged : 3 < stage → stage < 6 → length (f CH) ≡ 1
   pub done : stage ≡ 5 → Done r
 
 -- ---- the invariant
@@ -94,10 +117,15 @@ pub record Live (r : Run) (f : Tag → List (List ℕ)) : Type 0 where
   pub signatures-size : length (r .signatures) ≡ 512
   pub stage : AtStage (r .stage) r f
 
+-- need response rows end stage 4
+abbrev pub Responding : Run → Type 0
+Responding r = r .stage ≡ 4 → r .responses .count < quorum (r .setup .t) (r .setup .a)
+
 -- of a run and the accepted records of its list
 pub record Invariant (r : Run) (l : List (List ℕ)) : Type 0 where
   pub start : r .stage ≡ 0 → l ≡ []
   pub live : 0 < r .stage → Live r (λ g. ofTag g l)
+  pub responding : Responding r
 
 -- ---- what follows
 
@@ -107,22 +135,22 @@ module _ (setup : Setup) (s : List ℕ) (h : SetupOf setup s) where
   setup-bounds = subst (λ (z : Setup). Bounds (z .n) (z .t) (z .a)) (sym (h .setup-is)) (setup-passed s (h .admitted) .bounds)
 
   -- S is key 0, and S_j key j
-  pub key-is : (j : ℕ) → j ≤ setup .t → getD (setup .key) j (element 0) ≡ element (word s 6 j)
+  pub key-is : (j : ℕ) → j ≤ setup .t → getD (setup .key) j filler ≡ element (word s 6 j)
   unfolding setupOf noSetup
   key-is j l =
-      ap (λ (z : Setup). getD (z .key) j (element 0)) (h .setup-is)
-      ∙ stored-from _ (byteAt s 3 + 1) _ (element 0) (omega (arith, length-filled 32 (element 0), key-max setup-bounds, ap (λ (z : Setup). z .t) (h .setup-is))) j
+      ap (λ (z : Setup). getD (z .key) j filler) (h .setup-is)
+      ∙ stored-from _ (byteAt s 3 + 1) _ filler (omega (arith, length-filled 32 filler, key-max setup-bounds, ap (λ (z : Setup). z .t) (h .setup-is))) j
       (omega (arith, ap (λ (z : Setup). z .t) (h .setup-is)))
 
-  pub key-element : (j : ℕ) → j ≤ setup .t → IsElement (getD (setup .key) j (element 0))
+  pub key-element : (j : ℕ) → j ≤ setup .t → IsElement (getD (setup .key) j filler)
   unfolding setupOf
   key-element j l = rw (key-is j l) (setup-passed s (h .admitted) .elements j (omega (arith, ap (λ (z : Setup). z .t) (h .setup-is))))
 
 pub commitment-element : (setup : Setup) (d : Dealings) (l : List (List ℕ)) → DealingsOf setup d l
-    → (i v : ℕ) → 0 < i → has (d .dealers) i ≡ true → v < quorum (setup .t) (setup .a) → IsElement (getD (d .commitments) (base i + v) (element 0))
+    → (i v : ℕ) → 0 < i → has (d .dealers) i ≡ true → v < quorum (setup .t) (setup .a) → IsElement (getD (d .commitments) (base i + v) filler)
 commitment-element setup d l h i v p e k =
-    rw (h .slots i v p k)
-    (dealing-passed (setup .n) (setup .t) (setup .a) (recordOf i l) (recordOf-all i _ l (h .admitted) (sym (h .senders .mask-is i) ∙ e)) .elements v k)
+    let sent : sentBy i l ≡ true = sym (h .senders .mask-is i) ∙ e in
+    rw (h .slots i v p k sent) (dealing-passed (setup .n) (setup .t) (setup .a) (recordOf i l) (recordOf-all i _ l (h .admitted) sent) .elements v k)
 
 module _ (r : Run) (f : Tag → List (List ℕ)) (h : Live r f) where
   pub live-bounds : Bounds (r .setup .n) (r .setup .t) (r .setup .a)

@@ -5,12 +5,11 @@ use mathlib.Core.List.{List, []}
 use Prim.Native.Nat.{ℕ, _+_, _-_, _^_, _≤_, _<_}
 use native.Mathlib.Omega.{arith}
 use native.Mathlib.Decide.{decLt}
-use lib.ListN.{getD, set, length-set}
-use lib.Seq.{getD-set-same, getD-set-other}
-use lib.Dec.{eqb, leb}
-use borrow.Author.Tests.{eqb-true, eqb-false, leb-true}
+use lib.ListN.{length-set}
+use lib.Dec.{eqb}
+use borrow.Author.Tests.{eqb-true, eqb-false}
 use Rattle.lists.specs.Tests.{pick, allTo, all-at, no-both, not-yes, and-left, passed}
-use Rattle.lists.specs.Members.{all-snoc}
+use Rattle.lists.specs.Members.{all-map, all-snoc}
 use Rattle.lists.specs.Stores.{length-stored, length-filled}
 use Rattle.sets.specs.Masks.{has, insert}
 use Rattle.sets.specs.MaskLaws.{has-zero, has-or, has-insert, has-above}
@@ -26,10 +25,10 @@ use Rattle.run.specs.declared.Responses.{Responses}
 use Rattle.run.specs.declared.Run.{Run}
 use Rattle.run.specs.Runs.{noDealings, noComplaints, noResponses, transcriptOf}
 use Rattle.run.specs.Steps.{orNext, dealingNumber, wrongShares, withDealing, mayBlame, complaintNumber, withComplaint, responseNumber, withResponse}
-use Rattle.promises.specs.Lists.{some, sentBy, recordOf}
-use Rattle.promises.specs.ListLaws.{snoc, some-snoc, sentBy-other}
-use Rattle.promises.specs.Senders.{New, senders-none, slots-none, senders-more, recordOf-case, slots-more}
-use Rattle.promises.specs.Invariant.{DealingsOf, ComplaintsOf, ResponsesOf, Row}
+use Rattle.promises.specs.Lists.{some}
+use Rattle.promises.specs.ListLaws.{snoc, some-snoc}
+use Rattle.promises.specs.Senders.{New, has-pos, senders-none, slots-none, marks-none, senders-more, slots-more, marks-more}
+use Rattle.promises.specs.Invariant.{filler, badMask, DealingsOf, ComplaintsOf, ResponsesOf, Row}
 
 -- no refusal: none before, and none after
 or-next : (k next : ℕ) → orNext k next ≡ 0 → (k ≡ 0) × (next ≡ 0)
@@ -46,17 +45,17 @@ pub no-dealings : (setup : Setup) → DealingsOf setup noDealings []
 unfolding noDealings some
 no-dealings setup =
     record {
-      commitments-size = length-filled 1024 (element 0);
+      commitments-size = length-filled 1024 filler;
       wrong-size = length-filled {A = ℕ} 32 0;
       senders = senders-none (setup .n);
-      slots = slots-none element (quorum (setup .t) (setup .a)) 1024;
-      wrong-is = λ i p e. absurd (no-both refl (sym e));
+      slots = slots-none element filler (quorum (setup .t) (setup .a)) (noDealings .commitments);
+      wrong-is = marks-none (wrongShares setup) (noDealings .wrong);
       admitted = tt;
     }
 
 pub no-complaints : (setup : Setup) (dealers : ℕ) → ComplaintsOf setup dealers noComplaints []
 unfolding noComplaints some
-no-complaints setup dealers = record { senders = senders-none (setup .n); blamed-is = has-zero; founded = λ i e. absurd (no-both e (has-zero i)) }
+no-complaints setup dealers = record { senders = senders-none (setup .n); blamed-is = has-zero; founded = tt }
 
 pub no-responses : (setup : Setup) → ResponsesOf setup noResponses []
 unfolding noResponses
@@ -64,7 +63,7 @@ no-responses setup =
     record {
       numbers-size = length-filled 1024 (scalar 0);
       senders = senders-none (setup .n);
-      slots = slots-none scalar (batch (setup .n) (setup .t)) 1024;
+      slots = slots-none scalar (scalar 0) (batch (setup .n) (setup .t)) (noResponses .numbers);
     }
 
 -- ---- DE
@@ -78,12 +77,6 @@ dealing-new r s e =
     (c .0, record { sender-pos = p .sender-pos; sender-max = p .sender-max; unsent = not-yes _ (passed _ 12 0 (c .1) (omega arith) .0) })
 
 module _ (setup : Setup) (d : Dealings) (s : List ℕ) (l : List (List ℕ)) (b : Bounds (setup .n) (setup .t) (setup .a)) (c : New (setup .n) (d .dealers) s) (h : DealingsOf setup d l) where
-  wrong-more : (i : ℕ) → 0 < i → sentBy i (snoc l s) ≡ true → getD (set (d .wrong) (sender s - 1) (wrongShares setup s)) (i - 1) 0 ≡ wrongShares setup (recordOf i (snoc l s))
-  wrong-more i p e =
-      recordOf-case s (b .n-max) c (h .senders) (λ z. getD (set (d .wrong) (sender s - 1) (wrongShares setup s)) (i - 1) 0 ≡ wrongShares setup z) i
-      (λ own. rw (← own) (getD-set-same (d .wrong) (sender s - 1) (wrongShares setup s) 0 (omega arith)))
-      (λ other. getD-set-other (d .wrong) (sender s - 1) (i - 1) (wrongShares setup s) 0 (omega arith) ∙ h .wrong-is i p (sym (sentBy-other i l s other) ∙ e))
-
   pub dealings-more : dealingRefusal (setup .n) (setup .t) (setup .a) s ≡ 0 → DealingsOf setup (withDealing setup d s) (snoc l s)
   unfolding withDealing
   dealings-more e =
@@ -91,8 +84,8 @@ module _ (setup : Setup) (d : Dealings) (s : List ℕ) (l : List (List ℕ)) (b 
         commitments-size = length-stored (d .commitments) _ _ _ ∙ h .commitments-size;
         wrong-size = length-set (d .wrong) _ _ ∙ h .wrong-size;
         senders = senders-more s (b .n-max) c (h .senders);
-        slots = slots-more s (b .n-max) c (h .senders) element _ (d .commitments) (omega (arith, quorum-max b)) (h .commitments-size) (h .slots);
-        wrong-is = wrong-more;
+        slots = slots-more s (b .n-max) c (h .senders) element filler _ (d .commitments) (omega (arith, quorum-max b)) (h .commitments-size) (h .slots);
+        wrong-is = marks-more s (b .n-max) c (h .senders) (wrongShares setup) (d .wrong) (h .wrong-size) (h .wrong-is);
         admitted = all-snoc _ l s (h .admitted) e;
       }
 
@@ -105,17 +98,17 @@ complaints-kept setup dealers c s l b new h =
     record {
       senders = h .senders;
       blamed-is = h .blamed-is;
-      founded = λ i e. rw (has-insert dealers (sender s) i (new .sender-pos) (omega arith), h .founded i e);
+      founded = all-map _ _ (λ x f i e. rw (has-insert dealers (sender s) i (new .sender-pos) (omega arith), f i e)) l (h .founded);
     }
 
 -- a mask that passes blames accepted dealers alone
 blames-dealers : (n j mask : ℕ) (d : Dealings) → mask < 2 ^ n → allTo n (λ i. not (has mask (i + 1)) || mayBlame d j (i + 1)) ≡ true
     → (i : ℕ) → has mask i ≡ true → has (d .dealers) i ≡ true
-unfolding has mayBlame
+unfolding mayBlame
 blames-dealers n j mask d l e i h = and-left (has (d .dealers) i) _ (go (decLt n i))
   where
     pos : 0 < i
-    pos = leb-true 1 i (and-left (leb 1 i) _ h)
+    pos = has-pos mask i h
 
     back : i - 1 + 1 ≡ i
     back = omega (arith, pos)
@@ -140,13 +133,12 @@ unfolding withComplaint
 complaints-more setup dealers c s l b new blames h =
     record {
       senders = senders-more s b new (h .senders);
-      blamed-is = λ i. has-or (c .blamed) (numberAt s 4) i ∙ ap (λ (z : Bool). z || has (numberAt s 4) i) (h .blamed-is i) ∙ sym (some-snoc (λ x. has (numberAt x 4) i) l s);
-      founded = λ i e. go i (has (c .blamed) i) refl (sym (has-or (c .blamed) (numberAt s 4) i) ∙ e);
+      blamed-is = λ i. more i ∙ ap (λ (z : Bool). z || has (numberAt s 4) i) (h .blamed-is i) ∙ sym (some-snoc (λ x. has (numberAt x 4) i) l s);
+      founded = all-snoc _ l s (h .founded) blames;
     }
   where
-    go : (i : ℕ) (b : Bool) → has (c .blamed) i ≡ b → (b || has (numberAt s 4) i) ≡ true → has dealers i ≡ true
-    go i true d e = h .founded i d
-    go i false d e = blames i e
+    more : (i : ℕ) → has (badMask (setup .n) (withComplaint c s)) i ≡ (has (badMask (setup .n) c) i || has (numberAt s 4) i)
+    more i = has-or (badMask (setup .n) c) (numberAt s 4) i
 
 -- ---- RE
 
@@ -168,5 +160,5 @@ responses-more setup p s l b c h =
     record {
       numbers-size = length-stored (p .numbers) _ _ _ ∙ h .numbers-size;
       senders = senders-more s (b .n-max) c (h .senders);
-      slots = slots-more s (b .n-max) c (h .senders) scalar _ (p .numbers) (omega (arith, batch-max b)) (h .numbers-size) (h .slots);
+      slots = slots-more s (b .n-max) c (h .senders) scalar (scalar 0) _ (p .numbers) (omega (arith, batch-max b)) (h .numbers-size) (h .slots);
     }

@@ -6,6 +6,9 @@ pub mod InvariantParts
 pub mod InvariantSteps
 pub mod Places
 pub mod Made
+pub mod Stages
 pub mod Finished
 pub mod Demand3
+pub mod Answers
 pub mod Pages
+pub mod Complaints

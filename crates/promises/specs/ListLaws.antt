@@ -37,6 +37,16 @@ unfolding some
 some-snoc p [] s = or-false (p s)
 some-snoc p (x ∷ l) s = ap (λ (b : Bool). p x || b) (some-snoc p l s) ∙ sym (or-assoc (p x) (some p l) (p s))
 
+-- a record that passes, of those that all have a property
+pub some-all : (p : List ℕ → Bool) (P : List ℕ → Type 0) (l : List (List ℕ)) → All P l → some p l ≡ true → (s : List ℕ) × (p s ≡ true) × P s
+unfolding some
+some-all p P [] h e = absurd (no-both e refl)
+some-all p P (x ∷ l) h e = go (p x) refl e (some-all p P l (h .1))
+  where
+    go : (b : Bool) → p x ≡ b → (b || some p l) ≡ true → (some p l ≡ true → (s : List ℕ) × (p s ≡ true) × P s) → (s : List ℕ) × (p s ≡ true) × P s
+    go true d e later = (x, d, h .0)
+    go false d e later = later e
+
 module _ (i : ℕ) where
   -- ---- the records of sender i
 

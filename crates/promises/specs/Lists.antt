@@ -3,12 +3,13 @@ use Prim.Native.Nat.{ℕ, _-_}
 use mathlib.Core.Bool.{Bool, false, not, _&&_, _||_}
 use mathlib.Core.List.{List, [], _∷_}
 use lib.ListN.{length, getD}
-use lib.Dec.{eqb}
+use lib.Dec.{eqb, ltb}
 use Rattle.lists.specs.Tests.{pick}
-use Rattle.sets.specs.Masks.{has}
+use Rattle.sets.specs.Masks.{has, count}
 use Rattle.field.specs.declared.Scalar.{Scalar}
 use Rattle.field.specs.Definitions.{scalar, element}
 use Rattle.interpolation.specs.Definitions.{party, slot, scalarAt}
+use Rattle.records.specs.Parameters.{quorum}
 use Rattle.records.specs.Bytes.{byteAt, numberAt, word, sender}
 use Rattle.records.specs.Tags.{Tag, SU, DE, VE, CH, RE, code, tagOf}
 use Rattle.run.specs.declared.Run.{Run}
@@ -84,3 +85,31 @@ module _ (l : List (List ℕ)) where
   unfoldable pub phi : ℕ → ℕ → Scalar
   phi u k =
       scalarAt (λ i. party (sender (getD (ofTag RE l) i []))) (length (ofTag RE l)) (λ i. scalar (word (getD (ofTag RE l) i []) 4 (u - 1))) (slot k)
+
+  -- no SU yet
+  unfoldable pub unset : Bool
+  unset = eqb (length (ofTag SU l)) 0
+
+  -- fewer than n-t DE
+  unfoldable pub dealing : Bool
+  dealing = ltb (length (ofTag DE l)) (read .n - read .t)
+
+  -- fewer than n-t VE
+  unfoldable pub complaining : Bool
+  complaining = ltb (length (ofTag VE l)) (read .n - read .t)
+
+  -- more than t dealers in BAD
+  unfoldable pub stopped : Bool
+  stopped = ltb (read .t) (count (read .n) bad)
+
+  -- no CH yet
+  unfoldable pub unchallenged : Bool
+  unchallenged = eqb (length (ofTag CH l)) 0
+
+  -- fewer than need RE
+  unfoldable pub responding : Bool
+  responding = ltb (length (ofTag RE l)) (quorum (read .t) (read .a))
+
+  -- the stage that they bring
+  unfoldable pub stageBy : ℕ
+  stageBy = pick unset 0 (pick dealing 1 (pick complaining 2 (pick stopped 6 (pick unchallenged 3 (pick responding 4 5)))))

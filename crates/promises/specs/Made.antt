@@ -2,13 +2,17 @@
 use mathlib.Core.Path.{_≡_, refl, sym, ap, ap₂, _∙_}
 use mathlib.Core.Bool.{Bool, true, false, not, _&&_, and-false}
 use mathlib.Core.List.{List}
-use Prim.Native.Nat.{ℕ, _<_}
+use Prim.Native.Nat.{ℕ, _-_, _≤_, _<_}
+use native.Mathlib.Omega.{arith}
+use lib.ListN.{length}
 use Rattle.lists.specs.Tests.{and-left}
-use Rattle.sets.specs.Masks.{has}
+use Rattle.lists.specs.Members.{Distinct}
+use Rattle.sets.specs.Masks.{has, count}
+use Rattle.sets.specs.MemberLaws.{same-members}
 use Rattle.field.specs.Definitions.{scalar}
 use Rattle.records.specs.Parameters.{batch}
-use Rattle.records.specs.Bytes.{word}
-use Rattle.records.specs.Tags.{SU, CH}
+use Rattle.records.specs.Bytes.{word, sender}
+use Rattle.records.specs.Tags.{SU, DE, VE, CH}
 use Rattle.protocol.specs.Alike.{Alike}
 use Rattle.protocol.specs.Signature.{Sound}
 use Rattle.run.specs.declared.Setup.{Setup}
@@ -16,8 +20,9 @@ use Rattle.protocol.specs.Arrays.{cell}
 use Rattle.run.specs.Runs.{wellFormed, stageOf, transcriptOf}
 use Rattle.run.specs.Steps.{setupOf, after}
 use Rattle.promises.specs.Lists.{accepted, ofTag, first, dealer, hold, bad, qualified, read}
+use Rattle.promises.specs.ListLaws.{some-all}
 use Rattle.promises.specs.Places.{cell-lt}
-use Rattle.promises.specs.Invariant.{Live, key-is, key-element, commitment-element, live-bounds, live-well-formed, stage-of}
+use Rattle.promises.specs.Invariant.{badMask, Live, key-is, key-element, commitment-element, live-bounds, live-well-formed, stage-of}
 use Rattle.promises.specs.InvariantSteps.{invariant-after}
 
 -- what only members have
@@ -52,13 +57,15 @@ module _ (l : List (List ℕ)) (p : 0 < after l .stage) where
   unfolding hold
   made-hold j = made-live .complaints .senders .mask-is j
 
-  pub made-bad : (i : ℕ) → has (after l .complaints .blamed) i ≡ bad (accepted l) i
+  pub made-bad : (i : ℕ) → has (badMask (after l .setup .n) (after l .complaints)) i ≡ bad (accepted l) i
   unfolding bad dealer
   made-bad i =
-      within (has (after l .complaints .blamed) i) (has (after l .dealings .dealers) i) (made-live .complaints .founded i)
-      ∙ ap₂ _&&_ (made-live .dealings .senders .mask-is i) (made-live .complaints .blamed-is i)
+      let blamed = made-live .complaints .blamed-is i in
+      within (has (badMask (after l .setup .n) (after l .complaints)) i) (has (after l .dealings .dealers) i)
+      (λ e. let w = some-all _ _ _ (made-live .complaints .founded) (sym blamed ∙ e) in w .2 i (w .1))
+      ∙ ap₂ _&&_ (made-live .dealings .senders .mask-is i) blamed
 
-  pub made-qual : (i : ℕ) → (has (after l .dealings .dealers) i && not (has (after l .complaints .blamed) i)) ≡ qualified (accepted l) i
+  pub made-qual : (i : ℕ) → (has (after l .dealings .dealers) i && not (has (badMask (after l .setup .n) (after l .complaints)) i)) ≡ qualified (accepted l) i
   unfolding qualified dealer
   made-qual i = ap₂ (λ (d b : Bool). d && not b) (made-live .dealings .senders .mask-is i) (made-bad i)
 
@@ -76,8 +83,44 @@ module _ (l : List (List ℕ)) (p : 0 < after l .stage) where
         a-same = setup-same (λ z. z .a);
         key-same = key-is (after l .setup) _ (made-live .setup);
         qual-same = λ i p k. made-qual i;
-        commitment-same = λ i v p k e. made-live .dealings .slots i v p;
+        commitment-same = λ i v p k e m.
+            made-live .dealings .slots i v p m (sym (made-live .dealings .senders .mask-is i) ∙ and-left (has (after l .dealings .dealers) i) _ e);
         challenge-same = λ u k p m c d.
             made-live .challenges .challenge-is (cell (after l .setup .a) u k) (cell-lt (after l .setup .a) (batch (after l .setup .n) (after l .setup .t)) u k p m c d)
             ∙ ap (λ (x : ℕ). scalar (word (first (ofTag CH (accepted l))) 4 (cell x u k))) (setup-same (λ z. z .a));
       }
+
+  -- ---- the numbers of records, by stage
+
+  pub read-count : read (accepted l) .n - read (accepted l) .t ≡ after l .setup .n - after l .setup .t
+  unfolding transcriptOf
+  read-count = sym (ap₂ (λ (n t : ℕ). n - t) (made-alike .n-same) (made-alike .t-same))
+
+  -- n-t DE from different dealers
+  pub made-dealings : 1 < after l .stage → length (ofTag DE (accepted l)) ≡ read (accepted l) .n - read (accepted l) .t
+  made-dealings m = sym (made-live .dealings .senders .number-is) ∙ made-live .stage .counts .dealt m ∙ sym read-count
+
+  pub made-dealers-differ : Distinct sender (ofTag DE (accepted l))
+  made-dealers-differ = made-live .dealings .senders .differ
+
+  -- n-t VE from different holders
+  pub made-complaints : 2 < after l .stage → length (ofTag VE (accepted l)) ≡ read (accepted l) .n - read (accepted l) .t
+  made-complaints m = sym (made-live .complaints .senders .number-is) ∙ made-live .stage .counts .complained m ∙ sym read-count
+
+  pub made-holders-differ : Distinct sender (ofTag VE (accepted l))
+  made-holders-differ = made-live .complaints .senders .differ
+
+  bad-count : count (read (accepted l) .n) (bad (accepted l)) ≡ count (after l .setup .n) (has (badMask (after l .setup .n) (after l .complaints)))
+  unfolding transcriptOf
+  bad-count =
+      ap (λ (n : ℕ). count n (bad (accepted l))) (sym (made-alike .n-same))
+      ∙ same-members (has (badMask (after l .setup .n) (after l .complaints))) (bad (accepted l)) 1 (after l .setup .n) (λ i p m. sym (made-bad i))
+
+  -- at most t dealers in BAD, but at stage 6
+  pub made-few-bad : 2 < after l .stage → after l .stage < 6 → count (read (accepted l) .n) (bad (accepted l)) ≤ read (accepted l) .t
+  unfolding transcriptOf
+  made-few-bad m k = omega (arith, bad-count, made-alike .t-same, made-live .stage .counts .few-bad m k)
+
+  pub made-many-bad : after l .stage ≡ 6 → read (accepted l) .t < count (read (accepted l) .n) (bad (accepted l))
+  unfolding transcriptOf
+  made-many-bad m = omega (arith, bad-count, made-alike .t-same, made-live .stage .counts .many-bad m)

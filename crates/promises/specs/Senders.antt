@@ -3,21 +3,23 @@ use mathlib.Core.Path.{_≡_, refl, sym, ap, ap₂, _∙_}
 use mathlib.Core.Logic.{_≢_}
 use mathlib.Core.Bool.{Bool, true, false, _||_}
 use mathlib.Core.List.{List, [], _∷_}
-use Prim.Native.Nat.{ℕ, suc, _+_, _≤_, _<_}
+use Prim.Native.Nat.{ℕ, zero, suc, _+_, _-_, _≤_, _<_}
 use native.Mathlib.Omega.{arith}
 use native.Mathlib.Numerals.{add-one}
-use lib.ListN.{length, getD, length-append}
+use lib.ListN.{length, getD, set, length-append}
+use lib.Seq.{getD-set-same, getD-set-other}
 use lib.Dec.{eqb}
 use borrow.Author.Tests.{eqb-true, eqb-false, eq-eqb, ne-eqb}
+use Rattle.lists.specs.Tests.{no-both}
 use Rattle.lists.specs.Members.{All, all-snoc, Distinct, distinct-snoc}
-use Rattle.lists.specs.Stores.{stored, filled, stored-at, stored-other, getD-filled}
+use Rattle.lists.specs.Stores.{stored, stored-at, stored-other}
 use Rattle.sets.specs.Masks.{has, insert, count}
-use Rattle.sets.specs.MaskLaws.{has-zero, has-insert}
+use Rattle.sets.specs.MaskLaws.{has-none, has-zero, has-insert}
 use Rattle.sets.specs.MemberLaws.{no-members, more-members, count-le}
-use Rattle.records.specs.Bytes.{byteAt, numberAt, word, sender}
+use Rattle.records.specs.Bytes.{word, sender}
 use Rattle.protocol.specs.Arrays.{base}
 use Rattle.promises.specs.Lists.{some, sentBy, recordOf}
-use Rattle.promises.specs.ListLaws.{snoc, some-snoc, none-sent, recordOf-new, recordOf-other}
+use Rattle.promises.specs.ListLaws.{snoc, some-snoc, sentBy-other, none-sent, recordOf-new, recordOf-other}
 
 -- l has so many records, of different parties from 1 to n, who are the members of a mask
 pub record Senders (n number mask : ℕ) (l : List (List ℕ)) : Type 0 where
@@ -33,9 +35,18 @@ pub record New (n mask : ℕ) (s : List ℕ) : Type 0 where
   pub sender-max : sender s ≤ n
   pub unsent : has mask (sender s) ≡ false
 
--- party i's numbers stand in its slot, and 0 where it has none
-abbrev pub Slots : {A : Type 0} → (ℕ → A) → ℕ → List A → List (List ℕ) → Type 0
-Slots make width kept l = (i v : ℕ) → 0 < i → v < width → getD kept (base i + v) (make 0) ≡ make (word (recordOf i l) 4 v)
+-- the numbers of each party that has a record stand in its slot
+abbrev pub Slots : {A : Type 0} → (ℕ → A) → A → ℕ → List A → List (List ℕ) → Type 0
+Slots make filler width kept l = (i v : ℕ) → 0 < i → v < width → sentBy i l ≡ true → getD kept (base i + v) filler ≡ make (word (recordOf i l) 4 v)
+
+-- of the record of each party that has one, a mark is kept at its number
+abbrev pub Marks : (List ℕ → ℕ) → List ℕ → List (List ℕ) → Type 0
+Marks mark kept l = (i : ℕ) → 0 < i → sentBy i l ≡ true → getD kept (i - 1) 0 ≡ mark (recordOf i l)
+
+-- no party has the number 0
+pub has-pos : (m i : ℕ) → has m i ≡ true → 0 < i
+has-pos m zero e = absurd (no-both e (has-none m))
+has-pos m (suc i) e = omega arith
 
 -- ---- no record
 
@@ -43,9 +54,13 @@ pub senders-none : (n : ℕ) → Senders n 0 0 []
 unfolding some
 senders-none n = record { number-is = refl; members-are = sym (no-members (has 0) has-zero 1 n); mask-is = has-zero; parties = tt; differ = tt }
 
-pub slots-none : {A : Type 0} (make : ℕ → A) (width size : ℕ) → Slots make width (filled size (make 0)) []
-unfolding recordOf word numberAt byteAt
-slots-none make width size i v p l = getD-filled size (make 0) (base i + v)
+pub slots-none : {A : Type 0} (make : ℕ → A) (filler : A) (width : ℕ) (kept : List A) → Slots make filler width kept []
+unfolding some
+slots-none make filler width kept i v p l e = absurd (no-both e refl)
+
+pub marks-none : (mark : List ℕ → ℕ) (kept : List ℕ) → Marks mark kept []
+unfolding some
+marks-none mark kept i p e = absurd (no-both e refl)
 
 pub senders-max : {n number mask : ℕ} {l : List (List ℕ)} → Senders n number mask l → number ≤ n
 senders-max {n} {number} {mask} h = omega (arith, h .members-are, count-le n (has mask))
@@ -90,17 +105,23 @@ module _ {n number mask : ℕ} {l : List (List ℕ)} (s : List ℕ) (n-max : n �
       }
 
   -- a party's record is s, or is as it was
-  pub recordOf-case : (P : List ℕ → Type 0) (i : ℕ) → (sender s ≡ i → P s) → (sender s ≢ i → P (recordOf i l)) → P (recordOf i (snoc l s))
+  recordOf-case : (P : List ℕ → Type 0) (i : ℕ) → (sender s ≡ i → P s) → (sender s ≢ i → P (recordOf i l)) → P (recordOf i (snoc l s))
   recordOf-case P i own other = go (eqb (sender s) i) refl
     where
       go : (b : Bool) → eqb (sender s) i ≡ b → P (recordOf i (snoc l s))
       go true e = let d = eqb-true (sender s) i e in rw (recordOf-new i l s (ap (λ j. sentBy j l) (sym d) ∙ unsent-yet) d) (own d)
       go false e = rw (recordOf-other i l s e) (other (eqb-false (sender s) i e))
 
-  pub slots-more : {A : Type 0} (make : ℕ → A) (width : ℕ) (kept : List A) → width ≤ 32 → length kept ≡ 1024 → Slots make width kept l
-      → Slots make width (stored kept (base (sender s)) width (λ v. make (word s 4 v))) (snoc l s)
-  slots-more make width kept width-max size slots i v p d =
-      recordOf-case (λ z. getD (stored kept (base (sender s)) width (λ v. make (word s 4 v))) (base i + v) (make 0) ≡ make (word z 4 v)) i
-      (λ own. rw (← own) (stored-at kept (base (sender s)) width _ (make 0) (omega (arith, slot-fits (sender s) width (omega arith) width-max)) v d))
-      (λ other. stored-other kept (base (sender s)) width _ (make 0) (base i + v) (λ x y e. other (sym (slots-apart i (sender s) v x p (c .sender-pos) (omega arith) (omega arith) e)))
-      ∙ slots i v p d)
+  pub slots-more : {A : Type 0} (make : ℕ → A) (filler : A) (width : ℕ) (kept : List A) → width ≤ 32 → length kept ≡ 1024 → Slots make filler width kept l
+      → Slots make filler width (stored kept (base (sender s)) width (λ v. make (word s 4 v))) (snoc l s)
+  slots-more make filler width kept width-max size slots i v p d sent =
+      recordOf-case (λ z. getD (stored kept (base (sender s)) width (λ v. make (word s 4 v))) (base i + v) filler ≡ make (word z 4 v)) i
+      (λ own. rw (← own) (stored-at kept (base (sender s)) width _ filler (omega (arith, slot-fits (sender s) width (omega arith) width-max)) v d))
+      (λ other. stored-other kept (base (sender s)) width _ filler (base i + v) (λ x y e. other (sym (slots-apart i (sender s) v x p (c .sender-pos) (omega arith) (omega arith) e)))
+      ∙ slots i v p d (sym (sentBy-other i l s other) ∙ sent))
+
+  pub marks-more : (mark : List ℕ → ℕ) (kept : List ℕ) → length kept ≡ 32 → Marks mark kept l → Marks mark (set kept (sender s - 1) (mark s)) (snoc l s)
+  marks-more mark kept size marks i p sent =
+      recordOf-case (λ z. getD (set kept (sender s - 1) (mark s)) (i - 1) 0 ≡ mark z) i
+      (λ own. rw (← own) (getD-set-same kept (sender s - 1) (mark s) 0 (omega arith)))
+      (λ other. getD-set-other kept (sender s - 1) (i - 1) (mark s) 0 (omega arith) ∙ marks i p (sym (sentBy-other i l s other) ∙ sent))

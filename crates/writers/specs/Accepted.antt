@@ -77,7 +77,7 @@ dealing-accepted r i values room stage e new =
 
 -- ---- VE: by the run it was made from, if j has no verdict there
 
-complaint-mask : (r : Run) (j : ℕ) → wellFormed r ≡ true → numberAt (complaintBytes r j) 4 ≡ maskOf (r .setup .n) (mayBlame (r .dealings) j)
+pub complaint-mask : (r : Run) (j : ℕ) → wellFormed r ≡ true → numberAt (complaintBytes r j) 4 ≡ maskOf (r .setup .n) (mayBlame (r .dealings) j)
 unfolding complaintBytes
 complaint-mask r j w = number-at (86 ∷ 69 ∷ j ∷ 0 ∷ []) (maskOf (r .setup .n) (mayBlame (r .dealings) j)) [] (mask-lt r j w)
 

@@ -1,0 +1,146 @@
+-- What the run that a list makes answers: its stage, HOLD, QUAL and BAD, R(u,k) and φ(u,k), for every list of records. Assumes nothing.
+use mathlib.Core.Path.{_≡_, refl, ap, _∙_}
+use mathlib.Core.Bool.{Bool, true, false, _&&_}
+use mathlib.Core.List.{List, [], _∷_}
+use Prim.Native.Nat.{ℕ, _≤_, _<_}
+use native.Mathlib.Omega.{arith}
+use lib.Dec.{eqb, leb}
+use borrow.Author.Tests.{eqb-true, leb-true, le-leb, lt-leb}
+use Rattle.lists.specs.Tests.{pick, pick-map, and-left}
+use Rattle.sets.specs.Masks.{has}
+use Rattle.sets.specs.MaskLaws.{has-minus}
+use Rattle.field.specs.declared.Scalar.{Scalar}
+use Rattle.field.specs.declared.Element.{Element}
+use Rattle.protocol.specs.Transcript.{nonce}
+use Rattle.protocol.specs.Alike.{nonce-same}
+use Rattle.run.specs.declared.Nonce.{Nonce}
+use Rattle.run.specs.declared.Nonce.the-variants as N
+use Rattle.run.specs.declared.Signature.{Signature}
+use Rattle.run.specs.declared.Signature.the-variants as S
+use Rattle.run.specs.Runs.{stageOf, transcriptOf, qualOf, setsOf, kept}
+use Rattle.run.specs.Steps.{after}
+use Rattle.run.specs.Answers.{inBatch, nonceOf, signatureOf}
+use Rattle.promises.specs.Lists.{accepted, hold, bad, qualified, read, phi, stageBy}
+use Rattle.promises.specs.Places.{isPlace, place-of}
+use Rattle.promises.specs.Invariant.{badMask}
+use Rattle.promises.specs.Made.{made-stage, made-live, made-hold, made-bad, made-qual, made-alike}
+use Rattle.promises.specs.Stages.{stage-by}
+use Rattle.promises.specs.Finished.{kept-is}
+
+-- ---- the values of an answer: one, or none
+
+unfoldable pub nonceValues : Nonce → List Element
+nonceValues (N.Is v) = v ∷ []
+nonceValues N.None = []
+
+unfoldable pub responseValues : Signature → List Scalar
+responseValues (S.Is x) = x ∷ []
+responseValues S.None = []
+
+-- ---- what is claimed
+
+-- of a list of accepted records:
+module _ (l : List (List ℕ)) where
+  -- R(u,k) at stages 3 to 5, at the places of the list
+  unfoldable pub nonceBy : ℕ → ℕ → List Element
+  nonceBy u k = pick ((leb 3 (stageBy l) && leb (stageBy l) 5) && isPlace (read l) u k) (nonce (read l) u k ∷ []) []
+
+  -- φ(u,k) at stage 5, at the places of the list
+  unfoldable pub signatureBy : ℕ → ℕ → List Scalar
+  signatureBy u k = pick (eqb (stageBy l) 5 && isPlace (read l) u k) (phi l u k ∷ []) []
+
+-- HOLD, QUAL and BAD are fixed, and have the members that the accepted records give them
+pub record Fixed (l : List (List ℕ)) : Type 0 where
+  pub fixed : setsOf (after l) .fixed ≡ true
+  pub hold-is : (i : ℕ) → has (setsOf (after l) .hold) i ≡ hold (accepted l) i
+  pub qual-is : (i : ℕ) → has (setsOf (after l) .qual) i ≡ qualified (accepted l) i
+  pub bad-is : (i : ℕ) → has (setsOf (after l) .bad) i ≡ bad (accepted l) i
+
+-- they are not fixed, and empty
+pub record Unfixed (l : List (List ℕ)) : Type 0 where
+  pub unfixed : setsOf (after l) .fixed ≡ false
+  pub hold-none : setsOf (after l) .hold ≡ 0
+  pub qual-none : setsOf (after l) .qual ≡ 0
+  pub bad-none : setsOf (after l) .bad ≡ 0
+
+-- the stage is the one that the accepted records bring; the sets are fixed from stage 3 on; and R(u,k) and φ(u,k) are answered where they are
+-- due, and nothing elsewhere
+pub record Answers (l : List (List ℕ)) : Type 0 where
+  pub stage : stageOf (after l) ≡ stageBy (accepted l)
+  pub sets : 3 ≤ stageBy (accepted l) → Fixed l
+  pub no-sets : stageBy (accepted l) < 3 → Unfixed l
+  pub nonces : (u k : ℕ) → nonceValues (nonceOf (after l) u k) ≡ nonceBy (accepted l) u k
+  pub signatures : (u k : ℕ) → responseValues (signatureOf (after l) u k) ≡ signatureBy (accepted l) u k
+
+-- ---- the proof
+
+-- a choice by two tests, of which the second, and what is chosen, may be put otherwise where the first passes
+choice-same : {A : Type 0} (b c d : Bool) (x y z : A) → (b ≡ true → c ≡ d) → (b ≡ true → d ≡ true → x ≡ y) → pick (b && c) x z ≡ pick (b && d) y z
+choice-same true c true x y z e f = ap (λ (c : Bool). pick c x z) (e refl) ∙ f refl refl
+choice-same true c false x y z e f = ap (λ (c : Bool). pick c x z) (e refl)
+choice-same false c d x y z e f = refl
+
+module _ (l : List (List ℕ)) where
+  stage-is : stageOf (after l) ≡ stageBy (accepted l)
+  stage-is = made-stage l ∙ stage-by l
+
+  -- ---- the sets
+
+  sets-are : 3 ≤ stageBy (accepted l)
+      → setsOf (after l) ≡ record { fixed = true; hold = after l .complaints .holders; qual = qualOf (after l); bad = badMask (after l .setup .n) (after l .complaints) }
+  unfolding setsOf
+  sets-are m =
+      let p : 0 < after l .stage = omega (arith, stage-by l) in
+      rw (stage-is, le-leb 3 (stageBy (accepted l)) m, le-leb (stageBy (accepted l)) 6 (omega (arith, stage-by l, made-live l p .stage .stage-max)))
+
+  sets-fixed : 3 ≤ stageBy (accepted l) → Fixed l
+  unfolding qualOf
+  sets-fixed m =
+      let p : 0 < after l .stage = omega (arith, stage-by l) in
+      let e = sets-are m in
+      record {
+        fixed = rw e;
+        hold-is = λ i. rw e (made-hold l p i);
+        qual-is = λ i. rw e (has-minus (after l .dealings .dealers) (badMask (after l .setup .n) (after l .complaints)) i ∙ made-qual l p i);
+        bad-is = λ i. rw e (made-bad l p i);
+      }
+
+  sets-none : stageBy (accepted l) < 3 → setsOf (after l) ≡ record { fixed = false; hold = 0; qual = 0; bad = 0 }
+  unfolding setsOf
+  sets-none m = rw (stage-is, lt-leb 3 (stageBy (accepted l)) m)
+
+  sets-unfixed : stageBy (accepted l) < 3 → Unfixed l
+  sets-unfixed m = let e = sets-none m in record { unfixed = rw e; hold-none = rw e; qual-none = rw e; bad-none = rw e }
+
+  -- ---- R and φ
+
+  place-same : 0 < after l .stage → (u k : ℕ) → inBatch (after l) u k ≡ isPlace (read (accepted l)) u k
+  unfolding inBatch isPlace transcriptOf
+  place-same p u k = let h = made-alike l p in rw (h .n-same, h .t-same, h .a-same)
+
+  nonce-is : (u k : ℕ) → nonceValues (nonceOf (after l) u k) ≡ nonceBy (accepted l) u k
+  unfolding nonceOf nonceValues nonceBy
+  nonce-is u k =
+      let g = stageBy (accepted l) in
+      pick-map nonceValues ((leb 3 (stageOf (after l)) && leb (stageOf (after l)) 5) && inBatch (after l) u k) (N.Is (nonce (transcriptOf (after l)) u k)) N.None
+      ∙ ap (λ (g : ℕ). pick ((leb 3 g && leb g 5) && inBatch (after l) u k) (nonce (transcriptOf (after l)) u k ∷ []) []) stage-is
+      ∙ choice-same (leb 3 g && leb g 5) _ _ _ _ [] (λ e. place-same (live e) u k)
+      (λ e d. ap (λ (v : Element). v ∷ []) (nonce-same (transcriptOf (after l)) (read (accepted l)) (made-alike l (live e)) u k))
+    where
+      live : (leb 3 (stageBy (accepted l)) && leb (stageBy (accepted l)) 5) ≡ true → 0 < after l .stage
+      live e = omega (arith, stage-by l, leb-true 3 (stageBy (accepted l)) (and-left _ _ e))
+
+  signature-is : (u k : ℕ) → responseValues (signatureOf (after l) u k) ≡ signatureBy (accepted l) u k
+  unfolding signatureOf responseValues signatureBy
+  signature-is u k =
+      pick-map responseValues (eqb (stageOf (after l)) 5 && inBatch (after l) u k) (S.Is (kept (after l) u k)) S.None
+      ∙ ap (λ (g : ℕ). pick (eqb g 5 && inBatch (after l) u k) (kept (after l) u k ∷ []) []) stage-is
+      ∙ choice-same (eqb (stageBy (accepted l)) 5) _ _ _ _ [] (λ e. place-same (omega (arith, done e)) u k)
+      (λ e d. ap (λ (x : Scalar). x ∷ []) (kept-is l (done e) u k (place-of (read (accepted l)) u k d)))
+    where
+      done : eqb (stageBy (accepted l)) 5 ≡ true → after l .stage ≡ 5
+      done e = stage-by l ∙ eqb-true (stageBy (accepted l)) 5 e
+
+-- what the run of every list answers is what its accepted records say
+pub answers : (l : List (List ℕ)) → Answers l
+answers l = record { stage = stage-is l; sets = sets-fixed l; no-sets = sets-unfixed l; nonces = nonce-is l; signatures = signature-is l }

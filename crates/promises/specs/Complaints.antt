@@ -1,0 +1,246 @@
+-- Complaint rows over lists: which are refused with 13, and whom the writer's row blames. Assumes nothing.
+use mathlib.Core.Path.{_≡_, refl, sym, ap, ap₂, _∙_}
+use mathlib.Core.Logic.{_≢_, _↔_}
+use mathlib.Core.Bool.{Bool, true, false, not, _&&_, _||_}
+use mathlib.Core.List.{List}
+use Prim.Native.Nat.{ℕ, zero, suc, _+_, _-_, _≤_, _<_}
+use native.Mathlib.Omega.{arith}
+use native.Mathlib.Decide.{decLt}
+use lib.ListN.{getD}
+use lib.Dec.{eqb}
+use borrow.Author.Tests.{eqb-true, eqb-false}
+use Rattle.lists.specs.Tests.{pick, allTo, require, one-fails, no-both}
+use Rattle.sets.specs.Masks.{has, maskOf}
+use Rattle.sets.specs.MaskLaws.{has-none, has-maskOf, has-above, has-le, maskOf-lt}
+use Rattle.field.specs.Definitions.{scalar, element}
+use Rattle.records.specs.Bytes.{numberAt, word, sender}
+use Rattle.records.specs.Tags.{Tag, SU, DE, VE, CH, RE, unknown, tagOf}
+use Rattle.records.specs.Refusals.{sharesFrom, setupRefusal, dealingRefusal, complaintRefusal, challengesRefusal, responseRefusal}
+use Rattle.records.specs.Laws.{complaint-passed}
+use Rattle.protocol.specs.Transcript.{validShare}
+use Rattle.run.specs.declared.Run.{Run}
+use Rattle.run.specs.Runs.{stageOf, transcriptOf}
+use Rattle.run.specs.Steps.{orNext, dealingNumber, wrongShares, mayBlame, complaintNumber, challengesNumber, responseNumber, refused, taken, stepAt, stepOf, after}
+use Rattle.writers.specs.Writers.{complaintBytes}
+use Rattle.writers.specs.Accepted.{complaint-mask}
+use Rattle.promises.specs.Lists.{accepted, ofTag, sentBy, recordOf, dealer, hold, read, stageBy}
+use Rattle.promises.specs.ListLaws.{recordOf-all, recordOf-sender}
+use Rattle.promises.specs.Senders.{has-pos}
+use Rattle.promises.specs.Made.{made-live, made-well-formed, made-hold, made-alike}
+use Rattle.promises.specs.Stages.{stage-by}
+use Rattle.promises.specs.Answers.{answers}
+
+-- ---- what is claimed
+
+-- of a list of accepted records:
+module _ (l : List (List ℕ)) where
+  -- the share for j in dealer i's DE is valid
+  unfoldable pub shareValid : ℕ → ℕ → Bool
+  shareValid i j =
+      validShare (read l .t) (read l .a) (read l .commitment i) j (scalar (word (recordOf i (ofTag DE l)) (sharesFrom (read l .t) (read l .a)) (j - 1)))
+
+  -- dealer i has a DE, whose share for j is not valid
+  unfoldable pub wronged : ℕ → ℕ → Bool
+  wronged j i = dealer l i && not (shareValid i j)
+
+-- s is a VE at stage 2 that no other number refuses, and blames a dealer with no accepted DE, or one whose share for its sender is valid
+pub record FalseComplaint (l : List (List ℕ)) (s : List ℕ) : Type 0 where
+  pub tag : tagOf s ≡ VE
+  pub stage : stageBy (accepted l) ≡ 2
+  pub formed : complaintRefusal (read (accepted l) .n) s ≡ 0
+  pub new : hold (accepted l) (sender s) ≡ false
+  pub blamed : ℕ
+  pub blames : has (numberAt s 4) blamed ≡ true
+  pub unfounded : wronged (accepted l) (sender s) blamed ≡ false
+
+-- ---- the kept wrong shares are those of the accepted DE
+
+module _ (l : List (List ℕ)) (p : 0 < after l .stage) where
+  dealer-is : (i : ℕ) → has (after l .dealings .dealers) i ≡ dealer (accepted l) i
+  unfolding dealer
+  dealer-is i = made-live l p .dealings .senders .mask-is i
+
+  wrong-shares : (i j : ℕ) → 0 < i → 0 < j → j ≤ after l .setup .n → dealer (accepted l) i ≡ true → has (getD (after l .dealings .wrong) (i - 1) 0) j ≡ not (shareValid (accepted l) i j)
+  unfolding wrongShares dealer read transcriptOf shareValid
+  wrong-shares i j q k m e =
+      let s = recordOf i (ofTag DE (accepted l)) in
+      ap (λ (w : ℕ). has w j) (made-live l p .dealings .wrong-is i q e)
+      ∙ has-maskOf (after l .setup .n) _ j k m
+      ∙ ap₂ (λ (t a : ℕ). not (validShare t a (λ v. element (word s 4 v)) j (scalar (word s (sharesFrom t a) (j - 1))))) (made-alike l p .t-same) (made-alike l p .a-same)
+
+  wronged-is : (j i : ℕ) → 0 < j → j ≤ after l .setup .n → mayBlame (after l .dealings) j i ≡ wronged (accepted l) j i
+  unfolding mayBlame wronged
+  wronged-is j i k m = go (dealer (accepted l) i) refl
+    where
+      go : (b : Bool) → dealer (accepted l) i ≡ b → mayBlame (after l .dealings) j i ≡ wronged (accepted l) j i
+      go true e = ap₂ _&&_ (dealer-is i) (wrong-shares i j (has-pos _ i (dealer-is i ∙ e)) k m e)
+      go false e =
+          ap (λ (b : Bool). b && has (getD (after l .dealings .wrong) (i - 1) 0) j) (dealer-is i ∙ e)
+          ∙ sym (ap (λ (b : Bool). b && not (shareValid (accepted l) i j)) e)
+
+  -- no dealer is above n
+  dealer-max : (i : ℕ) → has (after l .dealings .dealers) i ≡ true → i ≤ after l .setup .n
+  dealer-max i e =
+      let sent : sentBy i (ofTag DE (accepted l)) ≡ true = sym (made-live l p .dealings .senders .mask-is i) ∙ e in
+      omega (arith, recordOf-all i _ (ofTag DE (accepted l)) (made-live l p .dealings .senders .parties) sent .1, recordOf-sender i (ofTag DE (accepted l)) sent)
+
+  -- the mask of those whom j may blame
+  mask-is : (j i : ℕ) → has (maskOf (after l .setup .n) (mayBlame (after l .dealings) j)) i ≡ mayBlame (after l .dealings) j i
+  unfolding mayBlame
+  mask-is j zero = has-none _ ∙ rw has-none
+  mask-is j (suc i) = go (decLt (after l .setup .n) (suc i))
+    where
+      go : Dec (after l .setup .n < suc i) → has (maskOf (after l .setup .n) (mayBlame (after l .dealings) j)) (suc i) ≡ mayBlame (after l .dealings) j (suc i)
+      go (yes k) = has-above _ (after l .setup .n) (suc i) (maskOf-lt (after l .setup .n) (mayBlame (after l .dealings) j)) k ∙ absent (has (after l .dealings .dealers) (suc i)) refl
+        where
+          absent : (b : Bool) → has (after l .dealings .dealers) (suc i) ≡ b → false ≡ (b && has (getD (after l .dealings .wrong) (suc i - 1) 0) j)
+          absent true e = absurd (omega (arith, dealer-max (suc i) e))
+          absent false e = refl
+      go (no k) = has-maskOf (after l .setup .n) (mayBlame (after l .dealings) j) (suc i) (omega arith) (omega arith)
+
+-- ---- what is refused with 13
+
+-- a test whose refusal is another number
+other : (b : Bool) (k x : ℕ) → eqb k 13 ≡ false → x ≢ 13 → require b k x ≢ 13
+unfolding require
+other true k x p q e = q e
+other false k x p q e = eqb-false k 13 p e
+
+or-other : (k next : ℕ) → k ≢ 13 → next ≢ 13 → orNext k next ≢ 13
+unfolding orNext
+or-other k next p q e = go (eqb k 0) e
+  where
+    go : (b : Bool) → pick b next k ≡ 13 → ⊥
+    go true e = q e
+    go false e = p e
+
+-- the number of a record at its stage is 13 where its handler says so
+taken-13 : (g : ℕ) (r : Run) (k : ℕ) (next : Run) → taken g r k next .number ≡ 13 → (stageOf r ≡ g) × (k ≡ 13)
+unfolding taken
+taken-13 g r k next e = go (eqb (stageOf r) g) refl (eqb k 0) refl e
+  where
+    go : (b : Bool) → eqb (stageOf r) g ≡ b → (c : Bool) → eqb k 0 ≡ c → pick b (pick c (record { run = next; number = 0 }) (refused r k)) (refused r 11) .number ≡ 13 → (stageOf r ≡ g) × (k ≡ 13)
+    go true x true y e = absurd (omega arith)
+    go true x false y e = (eqb-true (stageOf r) g x, e)
+    go false x c y e = absurd (omega arith)
+
+setup-other : (s : List ℕ) → setupRefusal s ≢ 13
+unfolding setupRefusal
+setup-other s = other _ 2 _ refl (other _ 3 _ refl (other _ 4 _ refl (other _ 7 0 refl (eqb-false 0 13 refl))))
+
+module _ (r : Run) (s : List ℕ) where
+  dealing-other : dealingNumber r s ≢ 13
+  unfolding dealingNumber dealingRefusal
+  dealing-other =
+      or-other _ _
+      (other _ 2 _ refl (other _ 3 _ refl (other _ 5 _ refl (other _ 7 _ refl (other _ 6 0 refl (eqb-false 0 13 refl))))))
+      (other _ 12 0 refl (eqb-false 0 13 refl))
+
+  challenges-other : challengesNumber r s ≢ 13
+  unfolding challengesNumber challengesRefusal
+  challenges-other = other _ 2 _ refl (other _ 3 _ refl (other _ 6 0 refl (eqb-false 0 13 refl)))
+
+  response-other : responseNumber r s ≢ 13
+  unfolding responseNumber responseRefusal
+  response-other =
+      or-other _ _
+      (other _ 2 _ refl (other _ 3 _ refl (other _ 5 _ refl (other _ 6 0 refl (eqb-false 0 13 refl)))))
+      (other _ 12 _ refl (other _ 14 _ refl (other _ 15 0 refl (eqb-false 0 13 refl))))
+
+  complaint-other : (n : ℕ) → complaintRefusal n s ≢ 13
+  unfolding complaintRefusal
+  complaint-other n = other _ 2 _ refl (other _ 3 _ refl (other _ 5 _ refl (other _ 8 0 refl (eqb-false 0 13 refl))))
+
+  -- every blamed dealer may be blamed
+  abbrev blamesRightly : Bool
+  blamesRightly = allTo (r .setup .n) (λ i. not (has (numberAt s 4) (i + 1)) || mayBlame (r .dealings) (sender s) (i + 1))
+
+  complaint-13 : complaintNumber r s ≡ 13 → (complaintRefusal (r .setup .n) s ≡ 0) × (has (r .complaints .holders) (sender s) ≡ false) × (blamesRightly ≡ false)
+  unfolding complaintNumber orNext require
+  complaint-13 e = go (complaintRefusal (r .setup .n) s) refl (eqb (complaintRefusal (r .setup .n) s) 0) refl (has (r .complaints .holders) (sender s)) refl blamesRightly refl e
+    where
+      go : (k : ℕ) → complaintRefusal (r .setup .n) s ≡ k → (b : Bool) → eqb k 0 ≡ b → (c : Bool) → has (r .complaints .holders) (sender s) ≡ c → (d : Bool) → blamesRightly ≡ d
+          → pick b (require (not c) 12 (require d 13 0)) k ≡ 13 → (complaintRefusal (r .setup .n) s ≡ 0) × (has (r .complaints .holders) (sender s) ≡ false) × (blamesRightly ≡ false)
+      go k x true y true z d w e = absurd (omega arith)
+      go k x true y false z true w e = absurd (omega arith)
+      go k x true y false z false w e = (x ∙ eqb-true k 0 y, z, w)
+      go k x false y c z d w e = absurd (complaint-other (r .setup .n) (x ∙ e))
+
+  complaint-is : complaintRefusal (r .setup .n) s ≡ 0 → has (r .complaints .holders) (sender s) ≡ false → blamesRightly ≡ false → complaintNumber r s ≡ 13
+  unfolding complaintNumber orNext require
+  complaint-is x z w = rw (x, z, w)
+
+-- some number fails a test that not all pass
+one-of : (n : ℕ) (f : ℕ → Bool) → allTo n f ≡ false → (i : ℕ) × (i < n) × (f i ≡ false)
+unfolding allTo
+one-of zero f e = absurd (no-both refl e)
+one-of (suc n) f e = go (allTo n f) refl (f n) refl e (one-of n f)
+  where
+    go : (b : Bool) → allTo n f ≡ b → (c : Bool) → f n ≡ c → (b && c) ≡ false → (allTo n f ≡ false → (i : ℕ) × (i < n) × (f i ≡ false)) → (i : ℕ) × (i < suc n) × (f i ≡ false)
+    go true x true y e ih = absurd (no-both refl e)
+    go true x false y e ih = (n, omega arith, y)
+    go false x c y e ih = let w = ih x in (w .0, omega (arith, w .1), w .2)
+
+-- a blame that is not founded
+unfounded-of : (b c : Bool) → (not b || c) ≡ false → (b ≡ true) × (c ≡ false)
+unfounded-of true c e = (refl, e)
+unfounded-of false c e = absurd (no-both refl e)
+
+module _ (l : List (List ℕ)) (s : List ℕ) where
+  false-of : tagOf s ≡ VE → stageOf (after l) ≡ 2 → complaintNumber (after l) s ≡ 13 → FalseComplaint l s
+  unfolding transcriptOf
+  false-of tag stage e =
+      let at : stageBy (accepted l) ≡ 2 = sym (answers l .stage) ∙ stage in
+      let p : 0 < after l .stage = omega (arith, stage-by l) in
+      let c = complaint-13 (after l) s e in
+      let passed = complaint-passed _ s (c .0) in
+      let w = one-of (after l .setup .n) _ (c .2) in
+      let x = unfounded-of _ _ (w .2) in
+      record {
+        tag = tag;
+        stage = at;
+        formed = rw (← made-alike l p .n-same) (c .0);
+        new = sym (made-hold l p (sender s)) ∙ c .1;
+        blamed = w .0 + 1;
+        blames = x .0;
+        unfounded = sym (wronged-is l p (sender s) (w .0 + 1) (passed .sender-pos) (passed .sender-max)) ∙ x .1;
+      }
+
+  false-refused : FalseComplaint l s → stepOf (after l) s .number ≡ 13
+  unfolding stepOf stepAt taken transcriptOf
+  false-refused h =
+      let p : 0 < after l .stage = omega (arith, stage-by l, h .stage) in
+      let formed : complaintRefusal (after l .setup .n) s ≡ 0 = rw (made-alike l p .n-same) (h .formed) in
+      let passed = complaint-passed _ s formed in
+      let i = h .blamed in
+      let pos : 0 < i = has-pos (numberAt s 4) i (h .blames) in
+      let back : i - 1 + 1 ≡ i = omega arith in
+      let below : i ≤ after l .setup .n = has-le (numberAt s 4) (after l .setup .n) i (passed .mask) (h .blames) in
+      let e : complaintNumber (after l) s ≡ 13 = complaint-is (after l) s formed (made-hold l p (sender s) ∙ h .new)
+      (one-fails _ (i - 1) (after l .setup .n) (omega arith) (rw (back, h .blames, wronged-is l p (sender s) i (passed .sender-pos) (passed .sender-max), h .unfounded))) in
+      rw (h .tag, answers l .stage, h .stage, e)
+
+  number-13 : (k : Tag) → tagOf s ≡ k → stepAt k (after l) s .number ≡ 13 → FalseComplaint l s
+  unfolding stepAt
+  number-13 SU m e = absurd (setup-other s (taken-13 0 (after l) _ _ e .1))
+  number-13 DE m e = absurd (dealing-other (after l) s (taken-13 1 (after l) _ _ e .1))
+  number-13 VE m e = let c = taken-13 2 (after l) _ _ e in false-of m (c .0) (c .1)
+  number-13 CH m e = absurd (challenges-other (after l) s (taken-13 3 (after l) _ _ e .1))
+  number-13 RE m e = absurd (response-other (after l) s (taken-13 4 (after l) _ _ e .1))
+  number-13 unknown m e = absurd (omega arith)
+
+-- After every list, a record is refused with 13 exactly where it is a false complaint.
+pub refused-13 : (l : List (List ℕ)) (s : List ℕ) → (stepOf (after l) s .number ≡ 13) ↔ FalseComplaint l s
+unfolding stepOf
+refused-13 l s = (number-13 l s (tagOf s) refl, false-refused l s)
+
+-- ---- the writer's complaint row
+
+-- At stage 2, the complaint row that the writer makes for j blames exactly the accepted dealers whose share for j is not valid.
+pub written-blames : (l : List (List ℕ)) → stageBy (accepted l) ≡ 2 → (j : ℕ) → 0 < j → j ≤ read (accepted l) .n
+    → (i : ℕ) → has (numberAt (complaintBytes (after l) j) 4) i ≡ wronged (accepted l) j i
+unfolding transcriptOf
+written-blames l e j q m i =
+    let p : 0 < after l .stage = omega (arith, stage-by l) in
+    let k : j ≤ after l .setup .n = omega (arith, made-alike l p .n-same) in
+    ap (λ (z : ℕ). has z i) (complaint-mask (after l) j (made-well-formed l p)) ∙ mask-is l p j i ∙ wronged-is l p j i q k
