@@ -12,14 +12,17 @@ use lib.ListN.{length, take, drop}
 use lib.Seq.{take-length, drop-length}
 use lib.Dec.{eqb, leb}
 use borrow.Author.Tests.{eqb-true, le-leb, lt-leb, lt-ltb, eq-eqb, ne-eqb}
-use Rattle.lists.specs.Tests.{pick, pick-case, require-false}
+use Rattle.lists.specs.Tests.{pick, pick-case, require-false, orNext}
 use Rattle.records.specs.Bytes.{byteAt}
 use Rattle.records.specs.Tags.{Tag, SU, DE, VE, CH, RE, unknown, code, tagOf, setupLength, dealingLength, complaintLength, challengesLength, responseLength}
 use Rattle.records.specs.Refusals.{setupRefusal, dealingRefusal, complaintRefusal, challengesRefusal, responseRefusal}
 use Rattle.run.specs.declared.Run.{Run}
 use Rattle.run.specs.Runs.{fresh, wellFormed, stageOf}
 use Rattle.run.specs.RunLaws.{stage-none, stage-past}
-use Rattle.run.specs.Steps.{orNext, dealingNumber, complaintNumber, challengesNumber, responseNumber, refused, taken, stepAt, stepOf, untaken}
+use Rattle.dealing.specs.Definitions.{dealingNumber}
+use Rattle.complaint.specs.Definitions.{complaintNumber}
+use Rattle.run.specs.Steps.{challengesNumber, refused, taken, stepAt, stepOf, untaken}
+use Rattle.response.specs.Definitions.{responseNumber}
 use Rattle.run.specs.Refused.{refusal-keeps, untaken-refused}
 use Rattle.log.specs.Cutting.{lengthAt, lengthOf, whole, recordsOf}
 use Rattle.log.specs.Turns.{nextLength, recordsFrom, none-yet, records-none, records-next}

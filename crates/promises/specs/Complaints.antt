@@ -9,7 +9,7 @@ use native.Mathlib.Decide.{decLt}
 use lib.ListN.{getD}
 use lib.Dec.{eqb}
 use borrow.Author.Tests.{eqb-true, eqb-false}
-use Rattle.lists.specs.Tests.{pick, allTo, require, one-fails, no-both}
+use Rattle.lists.specs.Tests.{pick, allTo, require, one-fails, no-both, orNext}
 use Rattle.sets.specs.Masks.{has, maskOf}
 use Rattle.sets.specs.MaskLaws.{has-none, has-maskOf, has-above, has-le, maskOf-lt}
 use Rattle.field.specs.Definitions.{scalar, element}
@@ -20,7 +20,10 @@ use Rattle.records.specs.Laws.{complaint-passed}
 use Rattle.protocol.specs.Transcript.{validShare}
 use Rattle.run.specs.declared.Run.{Run}
 use Rattle.run.specs.Runs.{stageOf, transcriptOf}
-use Rattle.run.specs.Steps.{orNext, dealingNumber, wrongShares, mayBlame, complaintNumber, challengesNumber, responseNumber, refused, taken, stepAt, stepOf, after}
+use Rattle.dealing.specs.Definitions.{dealingNumber, wrongShares, mayBlame}
+use Rattle.complaint.specs.Definitions.{complaintNumber}
+use Rattle.run.specs.Steps.{challengesNumber, refused, taken, stepAt, stepOf, after}
+use Rattle.response.specs.Definitions.{responseNumber}
 use Rattle.writers.specs.Writers.{complaintBytes}
 use Rattle.writers.specs.Accepted.{complaint-mask}
 use Rattle.promises.specs.Lists.{accepted, ofTag, sentBy, recordOf, dealer, hold, read, stageBy}

@@ -24,7 +24,8 @@ use Rattle.protocol.specs.Alike.{Alike, nonce-same}
 use Rattle.protocol.specs.Signature.{signature}
 use Rattle.run.specs.declared.Run.{Run}
 use Rattle.protocol.specs.Arrays.{base, cell}
-use Rattle.run.specs.Runs.{transcriptOf, respondersOf, phiOf, kept}
+use Rattle.run.specs.Runs.{transcriptOf, kept}
+use Rattle.response.specs.Definitions.{respondersOf, phiOf}
 use Rattle.run.specs.Steps.{after}
 use Rattle.promises.specs.Lists.{accepted, ofTag, sentBy, recordOf, hold, read, phi}
 use Rattle.promises.specs.ListLaws.{recordOf-all, recordOf-sender}

@@ -20,14 +20,15 @@ use Rattle.records.specs.Bytes.{byteAt, numberAt, word, sender}
 use Rattle.records.specs.Tags.{Tag, SU, DE, VE, CH, RE}
 use Rattle.records.specs.Refusals.{setupRefusal, dealingRefusal}
 use Rattle.records.specs.Laws.{Bounds, bounds-test, key-max, setup-passed, dealing-passed}
-use Rattle.run.specs.declared.Setup.{Setup}
-use Rattle.run.specs.declared.Dealings.{Dealings}
-use Rattle.run.specs.declared.Complaints.{Complaints}
-use Rattle.run.specs.declared.Responses.{Responses}
+use Rattle.dealing.specs.declared.Setup.{Setup}
+use Rattle.dealing.specs.declared.Dealings.{Dealings}
+use Rattle.complaint.specs.declared.Complaints.{Complaints}
+use Rattle.response.specs.declared.Responses.{Responses}
 use Rattle.run.specs.declared.Run.{Run}
 use Rattle.protocol.specs.Arrays.{base}
-use Rattle.run.specs.Runs.{noSetup, wellFormed, stageOf, transcriptOf, phiOf}
-use Rattle.run.specs.Steps.{setupOf, wrongShares}
+use Rattle.dealing.specs.Definitions.{noSetup, setupOf, wrongShares}
+use Rattle.run.specs.Runs.{wellFormed, stageOf, transcriptOf}
+use Rattle.response.specs.Definitions.{phiOf}
 use Rattle.promises.specs.Lists.{ofTag, first, some, sentBy, recordOf}
 use Rattle.promises.specs.ListLaws.{recordOf-all}
 use Rattle.promises.specs.Senders.{Senders, Slots, Marks, senders-max}

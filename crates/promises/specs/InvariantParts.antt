@@ -8,7 +8,7 @@ use native.Mathlib.Decide.{decLt}
 use lib.ListN.{length-set}
 use lib.Dec.{eqb}
 use borrow.Author.Tests.{eqb-true, eqb-false}
-use Rattle.lists.specs.Tests.{pick, allTo, all-at, no-both, not-yes, and-left, passed}
+use Rattle.lists.specs.Tests.{pick, allTo, all-at, no-both, not-yes, and-left, passed, orNext}
 use Rattle.lists.specs.Members.{all-map, all-snoc}
 use Rattle.lists.specs.Stores.{length-stored, length-filled}
 use Rattle.sets.specs.Masks.{has, insert}
@@ -18,13 +18,15 @@ use Rattle.records.specs.Parameters.{quorum, batch}
 use Rattle.records.specs.Bytes.{numberAt, sender}
 use Rattle.records.specs.Refusals.{dealingRefusal}
 use Rattle.records.specs.Laws.{Bounds, quorum-max, batch-max, dealing-passed, complaint-passed, response-passed}
-use Rattle.run.specs.declared.Setup.{Setup}
-use Rattle.run.specs.declared.Dealings.{Dealings}
-use Rattle.run.specs.declared.Complaints.{Complaints}
-use Rattle.run.specs.declared.Responses.{Responses}
+use Rattle.dealing.specs.declared.Setup.{Setup}
+use Rattle.dealing.specs.declared.Dealings.{Dealings}
+use Rattle.complaint.specs.declared.Complaints.{Complaints}
+use Rattle.response.specs.declared.Responses.{Responses}
 use Rattle.run.specs.declared.Run.{Run}
-use Rattle.run.specs.Runs.{noDealings, noComplaints, noResponses, transcriptOf}
-use Rattle.run.specs.Steps.{orNext, dealingNumber, wrongShares, withDealing, mayBlame, complaintNumber, withComplaint, responseNumber, withResponse}
+use Rattle.dealing.specs.Definitions.{noDealings, dealingNumber, wrongShares, withDealing, mayBlame}
+use Rattle.complaint.specs.Definitions.{noComplaints, complaintNumber, withComplaint}
+use Rattle.response.specs.Definitions.{noResponses, responseNumber, withResponse}
+use Rattle.run.specs.Runs.{transcriptOf}
 use Rattle.promises.specs.Lists.{some}
 use Rattle.promises.specs.ListLaws.{snoc, some-snoc}
 use Rattle.promises.specs.Senders.{New, has-pos, senders-none, slots-none, marks-none, senders-more, slots-more, marks-more}

@@ -17,12 +17,15 @@ use Rattle.records.specs.Bytes.{byteAt, numberAt, word}
 use Rattle.records.specs.Tags.{Tag, SU, DE, VE, CH, RE, unknown, tagOf}
 use Rattle.records.specs.Refusals.{setupRefusal}
 use Rattle.records.specs.Laws.{setup-passed, cells-max, quorum-pos}
-use Rattle.run.specs.declared.Setup.{Setup}
-use Rattle.run.specs.declared.Dealings.{Dealings}
-use Rattle.run.specs.declared.Complaints.{Complaints}
+use Rattle.dealing.specs.declared.Setup.{Setup}
+use Rattle.dealing.specs.declared.Dealings.{Dealings}
+use Rattle.complaint.specs.declared.Complaints.{Complaints}
 use Rattle.run.specs.declared.Run.{Run}
-use Rattle.run.specs.Runs.{noDealings, noComplaints, noScalars, begun, fresh, stageOf, transcriptOf, phiOf}
-use Rattle.run.specs.Steps.{setupOf, dealingNumber, withDealing, afterDealing, afterSetup, complaintNumber, withComplaint, complaintStage, afterComplaint, challengesNumber, afterChallenges, responseNumber, withResponse, withRow, finished, afterResponse, refused, taken, stepAt, stepOf, afterFrom, after}
+use Rattle.dealing.specs.Definitions.{noDealings, setupOf, dealingNumber, withDealing}
+use Rattle.complaint.specs.Definitions.{noComplaints, complaintNumber, withComplaint, complaintStage}
+use Rattle.run.specs.Runs.{noScalars, begun, fresh, stageOf, transcriptOf}
+use Rattle.response.specs.Definitions.{phiOf, responseNumber, withResponse}
+use Rattle.run.specs.Steps.{afterDealing, afterSetup, afterComplaint, challengesNumber, afterChallenges, withRow, finished, afterResponse, refused, taken, stepAt, stepOf, afterFrom, after}
 use Rattle.promises.specs.Lists.{acceptedFrom, accepted, ofTag, first}
 use Rattle.promises.specs.ListLaws.{snoc, more, ofTag-snoc}
 use Rattle.promises.specs.Invariant.{badMask, Counts, AtStage, Live, Responding, Invariant, live-bounds, stage-of}

@@ -15,10 +15,11 @@ use Rattle.records.specs.Bytes.{word, sender}
 use Rattle.records.specs.Tags.{SU, DE, VE, CH}
 use Rattle.protocol.specs.Alike.{Alike}
 use Rattle.protocol.specs.Signature.{Sound}
-use Rattle.run.specs.declared.Setup.{Setup}
+use Rattle.dealing.specs.declared.Setup.{Setup}
 use Rattle.protocol.specs.Arrays.{cell}
 use Rattle.run.specs.Runs.{wellFormed, stageOf, transcriptOf}
-use Rattle.run.specs.Steps.{setupOf, after}
+use Rattle.dealing.specs.Definitions.{setupOf}
+use Rattle.run.specs.Steps.{after}
 use Rattle.promises.specs.Lists.{accepted, ofTag, first, dealer, hold, bad, qualified, read}
 use Rattle.promises.specs.ListLaws.{some-all}
 use Rattle.promises.specs.Places.{cell-lt}

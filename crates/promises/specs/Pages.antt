@@ -21,7 +21,9 @@ use Rattle.protocol.specs.Alike.{nonce-same}
 use Rattle.run.specs.Runs.{fresh, stageOf, transcriptOf, kept}
 use Rattle.run.specs.Steps.{after}
 use Rattle.log.specs.Cutting.{recordsOf, runOf}
-use Rattle.log.specs.Report.{line, holdWord, qualWord, badWord, sigWord, endWord, longWord, refusalLines, setText, setLine, signatureLines, closing, reportOf}
+use Rattle.text.specs.Lines.{line, setText, setLine}
+use Rattle.closing.specs.Closing.{holdWord, qualWord, badWord, sigWord, endWord, signatureLines, closing}
+use Rattle.log.specs.Report.{longWord, refusalLines, reportOf}
 use Rattle.promises.specs.Lists.{accepted, hold, bad, qualified, read, phi, stageBy}
 use Rattle.promises.specs.Places.{place-at}
 use Rattle.promises.specs.Made.{made-live, made-alike}

@@ -5,7 +5,7 @@ use mathlib.Core.List.{List, [], _∷_}
 use Prim.Native.Nat.{ℕ, _+_, _-_, _≤_, _<_}
 use native.Mathlib.Omega.{arith}
 use lib.Dec.{eqb, ltb}
-use borrow.Author.Tests.{eqb-true, eqb-false}
+use borrow.Author.Tests.{eqb-false}
 use Rattle.lists.specs.Tests.{pick, pick-case}
 use Rattle.sets.specs.Masks.{has, count}
 use Rattle.records.specs.Parameters.{mostParties, quorum}
@@ -20,8 +20,9 @@ use Rattle.complaint.specs.Definitions.{noComplaints, blamedBy, withComplaint, 
 use Rattle.response.specs.Definitions.{noResponses, withResponse, responseNumber}
 use Rattle.run.specs.Runs.{begun, fresh, stageOf}
 use Rattle.run.specs.declared.Handler.{Handler}
-use Rattle.run.specs.declared.Handler.the-variants.{TakeSetup, TakeDealing, TakeComplaint, TakeChallenges, TakeResponse, Refuse}
-use Rattle.run.specs.Steps.{afterSetup, afterDealing, afterComplaint, afterChallenges, withRow, finished, afterResponse, refused, answered, takenAt, atStage, handlerAt, handled, stepOf, afterFrom}
+use Rattle.run.specs.declared.Handler.the-variants.{TakeSetup, TakeDealing, TakeComplaint, TakeChallenges, TakeResponse}
+use Rattle.run.specs.Steps.{afterSetup, afterDealing, afterComplaint, afterChallenges, withRow, finished, afterResponse, answered, takenAt, atStage, handlerAt, handled, stepOf, afterFrom}
+use Rattle.run.specs.StepLaws.{stage-case, answered-case}
 use Rattle.run.specs.RunLaws.{Formed, stage-live}
 
 pub record Regular (r : Run) : Type 0 where
@@ -162,13 +163,11 @@ module _ (r : Run) (h : Regular r) where
 
   -- what is answered at its stage: a refusal, or the next run
   regular-answered : (k : ℕ) (next : Run) → (k ≡ 0 → Regular next) → Regular (answered r k next .run)
-  regular-answered k next f =
-      pick-case (λ (y : Reply). Regular (y .run)) (eqb k 0) (record { run = next; number = 0 }) (refused r k) (λ y. f (eqb-true _ _ y)) (λ y. h)
+  regular-answered k next f = answered-case (λ (y : Reply). Regular (y .run)) r k next f (λ e. h)
 
   -- a record at the stage that takes its tag, or at another
   regular-at : (g : Tag) (a : Handler) (s : List ℕ) → (stageOf r ≡ takenAt g → Regular (handled a r s .run)) → Regular (handled (atStage g (stageOf r) a) r s .run)
-  unfolding atStage handled
-  regular-at g a s f = pick-case (λ (y : Handler). Regular (handled y r s .run)) (eqb (stageOf r) (takenAt g)) a (Refuse 11) (λ y. f (eqb-true _ _ y)) (λ y. h)
+  regular-at g a s f = stage-case (λ (y : Reply). Regular (y .run)) g a r s f (λ e. h)
 
   -- past stage 0 the stage is kept as it stands
   kept-stage : (g : ℕ) → 0 < g → g < 6 → stageOf r ≡ g → r .stage ≡ g

@@ -1,6 +1,6 @@
 pub mod Runs
 pub mod RunLaws
 pub mod Steps
+pub mod StepLaws
 pub mod Refused
-pub mod Answers
 pub mod KeepsFormed

@@ -1,6 +1,6 @@
 -- What a run keeps (document 01, "The run"), and what it says.
 use Prim.Native.Nat.{ℕ}
-use mathlib.Core.Bool.{Bool, true, false, _&&_}
+use mathlib.Core.Bool.{Bool, _&&_}
 use mathlib.Core.List.{List}
 use lib.ListN.{getD}
 use lib.Dec.{eqb, leb}
@@ -13,10 +13,9 @@ use Rattle.protocol.specs.Transcript.{Transcript}
 use Rattle.protocol.specs.Arrays.{cell}
 use Rattle.dealing.specs.declared.Setup.{Setup}
 use Rattle.dealing.specs.Definitions.{noSetup, noDealings}
-use Rattle.complaint.specs.Definitions.{noComplaints, blamedBy, unblamed}
+use Rattle.complaint.specs.Definitions.{noComplaints}
 use Rattle.response.specs.Definitions.{transcript, noResponses}
 use Rattle.run.specs.declared.Run.{Run}
-use Rattle.run.specs.declared.Sets.{Sets}
 
 -- ---- a fresh run: stage 0 and every list empty
 
@@ -55,25 +54,6 @@ stageOf r = pick (eqb (r .stage) 0) 0 (pick (wellFormed r) (r .stage) 6)
 
 unfoldable pub transcriptOf : Run → Transcript
 transcriptOf r = transcript (r .setup) (r .dealings) (r .complaints) (r .challenges)
-
--- BAD as a mask: the dealers whom any kept mask of HOLD blames
-unfoldable pub badOf : Run → ℕ
-badOf r = blamedBy (r .setup .n) (r .complaints)
-
--- the accepted dealers that no accepted complaint row blames, at any stage; from stage 3 on they are QUAL
-unfoldable pub unblamedOf : Run → ℕ
-unblamedOf r = unblamed (r .setup .n) (r .complaints) (r .dealings .dealers)
-
--- no set is fixed yet
-unfoldable pub unfixed : Sets
-unfixed = record { fixed = false; hold = 0; qual = 0; bad = 0 }
-
--- HOLD, QUAL and BAD are fixed from stage 3 on
-unfoldable pub setsOf : Run → Sets
-setsOf r =
-    pick (leb 3 (stageOf r))
-    (record { fixed = true; hold = r .complaints .holders; qual = unblamedOf r; bad = badOf r })
-    unfixed
 
 -- the number that a run keeps for (u,k)
 unfoldable pub kept : Run → ℕ → ℕ → Scalar

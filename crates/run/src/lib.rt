@@ -8,9 +8,8 @@ ghost use Rattle.records.specs.Refusals.{setupRefusal, challengesRefusal};
 ghost use Rattle.dealing.specs.Definitions.{dealingNumber};
 ghost use Rattle.complaint.specs.Definitions.{complaintNumber};
 ghost use Rattle.response.specs.Definitions.{responseNumber};
-ghost use Rattle.run.specs.Runs.{fresh, begun, wellFormed, stageOf, unblamedOf, setsOf};
+ghost use Rattle.run.specs.Runs.{fresh, begun, wellFormed, stageOf};
 ghost use Rattle.run.specs.Steps.{refused, answered, afterSetup, afterDealing, afterComplaint, afterChallenges, finished, afterResponse, handlerAt, stepOf, untaken};
-ghost use Rattle.run.specs.Answers.{inBatch, nonceOf, signatureOf};
 use complaint::Complaints;
 use dealing::Dealings;
 use dealing::Setup;
@@ -43,26 +42,6 @@ pub enum Handler {
     TakeChallenges,
     TakeResponse,
     Refuse(u8),
-}
-
-// HOLD, QUAL and BAD, once they are fixed.
-pub struct Sets {
-    pub fixed: bool,
-    pub hold: u64,
-    pub qual: u64,
-    pub bad: u64,
-}
-
-// R(u,k), or none where the run has none.
-pub enum Nonce {
-    Is(Element),
-    None,
-}
-
-// φ(u,k), or none where the run has none.
-pub enum Signature {
-    Is(Scalar),
-    None,
 }
 
 // Each tag is taken at one stage only.
@@ -328,86 +307,5 @@ impl Run {
             Handler::TakeResponse => self.take_response(bytes),
             Handler::Refuse(number) => self.refuse(number),
         }
-    }
-
-    // The accepted dealers that no accepted complaint row blames, at any stage; from stage 3 on they are QUAL.
-    pub fn unblamed(self) -> u64
-        ensures { λ r. ⌜ r ≡ unblamedOf self ⌝ }
-    {
-        let complaints = self.complaints;
-        complaints.unblamed(self.setup.n, self.dealings.dealers)
-    }
-
-    // HOLD, QUAL and BAD.
-    pub fn sets(self) -> Sets
-        ensures { λ r. ⌜ r ≡ setsOf self ⌝ }
-    {
-        if self.stage_of() < 3 {
-            return Sets {
-                fixed: false,
-                hold: 0,
-                qual: 0,
-                bad: 0,
-            };
-        }
-        let complaints = self.complaints;
-        Sets {
-            fixed: true,
-            hold: self.complaints.holders,
-            qual: self.unblamed(),
-            bad: complaints.blamed(self.setup.n),
-        }
-    }
-
-    // Whether u is from 1 to b and k from 1 to a.
-    fn in_batch(self, u: u8, k: u8) -> bool
-        ensures { λ r. ⌜ r ≡ inBatch self u k ⌝ }
-    {
-        if u < 1 {
-            return false;
-        }
-        if records::batch(self.setup.n, self.setup.t) < u {
-            return false;
-        }
-        if k < 1 {
-            return false;
-        }
-        k <= self.setup.a
-    }
-
-    // R(u,k), at stages 3, 4 and 5.
-    pub fn nonce(self, u: u8, k: u8) -> Nonce
-        ensures { λ r. ⌜ r ≡ nonceOf self u k ⌝ }
-    {
-        let stage = self.stage_of();
-        if stage < 3 {
-            return Nonce::None;
-        }
-        if 5 < stage {
-            return Nonce::None;
-        }
-        if !self.in_batch(u, k) {
-            return Nonce::None;
-        }
-        let setup = self.setup;
-        let dealings = self.dealings;
-        let complaints = self.complaints;
-        let x = interpolation::point(1, k);
-        Nonce::Is(response::combined_at(setup, dealings, complaints, u, x))
-    }
-
-    // φ(u,k), at stage 5.
-    pub fn signature(self, u: u8, k: u8) -> Signature
-        ensures { λ r. ⌜ r ≡ signatureOf self u k ⌝ }
-    {
-        if self.stage_of() != 5 {
-            return Signature::None;
-        }
-        if !self.in_batch(u, k) {
-            return Signature::None;
-        }
-        let at = (u - 1) as usize * self.setup.a as usize + (k - 1) as usize;
-        let list = self.signatures;
-        Signature::Is(list[at])
     }
 }

@@ -6,7 +6,7 @@ use Prim.Native.Nat.{ℕ, _+_, _-_, _≤_, _<_}
 use native.Mathlib.Omega.{arith}
 use borrow.Author.Tests.{eq-eqb, le-ltb}
 use lib.ListN.{length, getD}
-use Rattle.lists.specs.Tests.{all-make, require-pass}
+use Rattle.lists.specs.Tests.{all-make, require-pass, orNext}
 use Rattle.sets.specs.Masks.{has, maskOf}
 use Rattle.sets.specs.MaskLaws.{maskOf-lt, has-maskOf}
 use Rattle.field.specs.Definitions.{scalar, generator, IsScalar, raise}
@@ -23,7 +23,10 @@ use Rattle.dealer.specs.Valid.{setup-unrefused, dealing-unrefused}
 use Rattle.run.specs.declared.Run.{Run}
 use Rattle.run.specs.declared.Reply.{Reply}
 use Rattle.run.specs.Runs.{fresh, begun, wellFormed, stageOf, transcriptOf}
-use Rattle.run.specs.Steps.{orNext, dealingNumber, mayBlame, complaintNumber, responseNumber, taken, stepAt, stepOf}
+use Rattle.dealing.specs.Definitions.{dealingNumber, mayBlame}
+use Rattle.complaint.specs.Definitions.{complaintNumber}
+use Rattle.response.specs.Definitions.{responseNumber}
+use Rattle.run.specs.Steps.{taken, stepAt, stepOf}
 use Rattle.writers.specs.Writers.{complaintRefused, complaintBytes, responseRefused, responseFor, responseBytes}
 use Rattle.writers.specs.WriterLaws.{complaint-fits, mask-lt, response-fits}
 use Rattle.writers.specs.Honest.{number-passes}

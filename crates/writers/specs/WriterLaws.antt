@@ -18,7 +18,7 @@ use Rattle.records.specs.Tags.{complaintLength, responseLength}
 use Rattle.records.specs.Laws.{party-of}
 use Rattle.run.specs.declared.Run.{Run}
 use Rattle.run.specs.Runs.{wellFormed, stageOf, transcriptOf, qualOf}
-use Rattle.run.specs.Steps.{mayBlame}
+use Rattle.dealing.specs.Definitions.{mayBlame}
 use Rattle.run.specs.RunLaws.{formed-of, stage-live}
 use Rattle.writers.specs.Writers.{complaintRefused, responseRefused}
 

@@ -16,7 +16,7 @@ use Rattle.encoding.specs.Bytes.{four, fours}
 use Rattle.protocol.specs.Transcript.{coefficient, challengeAt}
 use Rattle.run.specs.declared.Run.{Run}
 use Rattle.run.specs.Runs.{stageOf, transcriptOf}
-use Rattle.run.specs.Steps.{mayBlame}
+use Rattle.dealing.specs.Definitions.{mayBlame}
 
 -- ---- VE, from a run and j
 

@@ -11,7 +11,7 @@ ghost use Rattle.field.specs.Definitions.{isScalar};
 ghost use Rattle.records.specs.Parameters.{mostParties, batch};
 ghost use Rattle.encoding.specs.Bytes.{fours};
 ghost use Rattle.run.specs.Runs.{wellFormed};
-ghost use Rattle.run.specs.Steps.{mayBlame};
+ghost use Rattle.dealing.specs.Definitions.{mayBlame};
 ghost use Rattle.writers.specs.WriterLaws.{sharesRefused};
 ghost use Rattle.writers.specs.Writers.{complaintRefused, complaintBytes, responseRefused, combinedShare, responseFor, responseBytes};
 use field::Scalar;

@@ -10,7 +10,7 @@ use Rattle.sets.specs.Masks.{maskOf}
 use Rattle.records.specs.Tags.{complaintLength}
 use Rattle.encoding.specs.Bytes.{four}
 use Rattle.encoding.specs.Stores.{sets-whole}
-use Rattle.run.specs.Steps.{mayBlame}
+use Rattle.dealing.specs.Definitions.{mayBlame}
 use Rattle.run.specs.RunLaws.{formed-of}
 use Rattle.writers.specs.Writers.{complaintBytes}
 use Rattle.writers.specs.WriterLaws.{ComplaintFits, complaint-fits, mask-lt}

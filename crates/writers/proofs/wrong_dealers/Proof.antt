@@ -10,7 +10,7 @@ use lib.ListN.{getD}
 use Rattle.lists.specs.Tests.{pick}
 use Rattle.sets.specs.Masks.{has, insert, maskOf}
 use Rattle.sets.specs.MaskLaws.{maskOf-insert}
-use Rattle.run.specs.Steps.{mayBlame}
+use Rattle.dealing.specs.Definitions.{mayBlame}
 use Rattle.writers.proofs.wrong_dealers.Statement.{statement}
 use Rattle.writers.proofs.wrong_dealers.Tie as tie
 

@@ -1,4 +1,4 @@
--- `Run::nonce` meets its contract: each test settles one factor of the definition. Assumes nothing.
+-- `nonce_at` meets its contract: each test settles one factor of the definition. Assumes nothing.
 use native.Mathlib.Omega.{arith}
 use borrow.Author.Tests.{le-leb, lt-leb}
 use Rattle.lists.specs.Calls.{holds, fails}
@@ -7,13 +7,13 @@ use mathlib.Core.Path.{refl, sym, ap, _∙_}
 use Rattle.interpolation.specs.Laws.{slot-is}
 use Rattle.records.specs.Laws.{bounds-test}
 use Rattle.protocol.specs.Transcript.{nonce, combinedAt}
-use Rattle.run.specs.declared.Nonce.the-variants as N
+use Rattle.answers.specs.declared.Nonce.the-variants as N
 use Rattle.run.specs.Runs.{stageOf, transcriptOf}
 use Rattle.run.specs.RunLaws.{formed-of, stage-live}
-use Rattle.run.specs.Answers.{nonceOf}
+use Rattle.answers.specs.Answers.{nonceOf}
 use borrow.Author.Needs.{needs}
-use Rattle.run.proofs.Run.nonce.Statement.{statement}
-use Rattle.run.proofs.Run.nonce.Tie as tie
+use Rattle.answers.proofs.nonce_at.Statement.{statement}
+use Rattle.answers.proofs.nonce_at.Tie as tie
 
 stage-of-requires : tie.Need-stage-of-requires
 stage-of-requires c κs = search needs
@@ -21,14 +21,14 @@ stage-of-requires c κs = search needs
 returns : tie.Need-returns
 unfolding nonceOf
 returns c =
-    let r = c .before .before .args .self in
+    let r = c .before .before .args .run in
     let l : stageOf r < 3 = rw (c .before .stage-of .ensures) at (c .if1 .taken) in
     rw (lt-leb 3 (stageOf r) l)
 
 returns-2 : tie.Need-returns-2
 unfolding nonceOf
 returns-2 c =
-    let r = c .before .before .before .args .self in
+    let r = c .before .before .before .args .run in
     let l : 3 ≤ stageOf r = rw (c .before .before .stage-of .ensures) at (c .before .if1 .left) in
     let h : 5 < stageOf r = rw (c .before .before .stage-of .ensures) at (c .if2 .taken) in
     rw (le-leb 3 (stageOf r) l, lt-leb (stageOf r) 5 h)
@@ -40,7 +40,7 @@ returns-3 : tie.Need-returns-3
 unfolding nonceOf
 returns-3 c =
     let stage = c .before .before .before .before in
-    let r = stage .before .args .self in
+    let r = stage .before .args .run in
     let l : 3 ≤ stageOf r = rw (stage .stage-of .ensures) at (c .before .before .before .if1 .left) in
     let h : stageOf r ≤ 5 = rw (stage .stage-of .ensures) at (c .before .before .if2 .left) in
     rw (le-leb 3 (stageOf r) l, le-leb (stageOf r) 5 h, fails (c .before .in-batch .ensures) (c .if3 .taken))
@@ -49,7 +49,7 @@ point-requires : tie.Need-point-requires
 point-requires c κs = search needs
 
 -- the run's stage, where it is asked for its parts
-live : (c : tie.Else3) → (3 ≤ stageOf (c .before .before .before .before .before .args .self)) × (stageOf (c .before .before .before .before .before .args .self) ≤ 5)
+live : (c : tie.Else3) → (3 ≤ stageOf (c .before .before .before .before .before .args .run)) × (stageOf (c .before .before .before .before .before .args .run) ≤ 5)
 live c =
     let stage = c .before .before .before .before in
     (rw (stage .stage-of .ensures) at (c .before .before .before .if1 .left), rw (stage .stage-of .ensures) at (c .before .before .if2 .left))
@@ -57,7 +57,7 @@ live c =
 combined-at-requires : tie.Need-combined-at-requires
 combined-at-requires c κs =
     let asked = c .before .before .before .before in
-    let r = asked .before .before .before .before .before .args .self in
+    let r = asked .before .before .before .before .before .args .run in
     let l = live asked in
     bounds-test (formed-of r (stage-live r (stageOf r) refl (omega arith) (omega arith) .1) .bounds)
 
@@ -66,12 +66,12 @@ unfolding nonceOf nonce transcriptOf
 returns-4 c =
     let asked = c .before .before .before .before .before in
     let a = asked .before .before .before .before .before .args in
-    let r = a .self in
+    let r = a .run in
     rw (le-leb 3 (stageOf r) (live asked .0), le-leb (stageOf r) 5 (live asked .1), holds (asked .before .in-batch .ensures) (asked .if3 .left))
     (ap N.Is (c .combined-at .ensures (r .challenges) ∙ ap (combinedAt (transcriptOf r) (a .u)) (c .before .point .ensures ∙ sym (slot-is (a .k)))))
 
-pub nonce-spec : {M : Type 1} → statement M
-nonce-spec =
+pub nonce-at-spec : {M : Type 1} → statement M
+nonce-at-spec =
     tie.close
     (tie.spec
     stage-of-requires

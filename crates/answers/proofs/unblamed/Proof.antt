@@ -1,8 +1,8 @@
--- `Run::unblamed` meets its contract. Assumes nothing.
+-- `unblamed` meets its contract. Assumes nothing.
 use borrow.Author.Needs.{needs}
-use Rattle.run.specs.Runs.{unblamedOf}
-use Rattle.run.proofs.Run.unblamed.Statement.{statement}
-use Rattle.run.proofs.Run.unblamed.Tie as tie
+use Rattle.answers.specs.Answers.{unblamedOf}
+use Rattle.answers.proofs.unblamed.Statement.{statement}
+use Rattle.answers.proofs.unblamed.Tie as tie
 
 unblamed-requires : tie.Need-unblamed-requires
 unblamed-requires c κs = search needs

@@ -1,9 +1,10 @@
--- `Run::sets` meets its contract. Assumes nothing.
+-- `sets_of` meets its contract. Assumes nothing.
 use borrow.Author.Tests.{le-leb, lt-leb}
 use borrow.Author.Needs.{needs}
-use Rattle.run.specs.Runs.{badOf, unfixed, setsOf}
-use Rattle.run.proofs.Run.sets.Statement.{statement}
-use Rattle.run.proofs.Run.sets.Tie as tie
+use Rattle.answers.specs.Answers.{badOf, setsOf}
+use Rattle.answers.specs.Answers.{unfixed}
+use Rattle.answers.proofs.sets_of.Statement.{statement}
+use Rattle.answers.proofs.sets_of.Tie as tie
 
 stage-of-requires : tie.Need-stage-of-requires
 stage-of-requires c κs = search needs
@@ -24,5 +25,5 @@ returns-2 c =
     let asked = c .before .before .before in
     rw (← asked .before .stage-of .ensures, le-leb 3 _ (asked .if1 .left), c .blamed .ensures, c .before .unblamed .ensures)
 
-pub sets-spec : {M : Type 1} → statement M
-sets-spec = tie.close (tie.spec stage-of-requires returns unblamed-requires blamed-requires returns-2)
+pub sets-of-spec : {M : Type 1} → statement M
+sets-of-spec = tie.close (tie.spec stage-of-requires returns unblamed-requires blamed-requires returns-2)

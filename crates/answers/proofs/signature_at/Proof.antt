@@ -1,4 +1,4 @@
--- `Run::signature` meets its contract: the number that is kept at the place of (u,k), which is among the 512. Assumes nothing.
+-- `signature_at` meets its contract: the number that is kept at the place of (u,k), which is among the 512. Assumes nothing.
 use borrow.Author.Needs.{needs}
 use borrow.Author.Tests.{leb-true, eq-eqb}
 use native.Mathlib.Omega.{arith}
@@ -12,12 +12,13 @@ use Rattle.lists.specs.Calls.{holds, fails, is-not}
 use Rattle.records.specs.Parameters.{batch}
 use Rattle.records.specs.Laws.{cells-max}
 use Rattle.protocol.specs.Arrays.{cell}
 use Rattle.run.specs.declared.Run.{Run}
 use Rattle.run.specs.Runs.{stageOf, kept}
 use Rattle.run.specs.RunLaws.{formed-of, stage-live}
-use Rattle.run.specs.Answers.{inBatch, signatureOf}
-use Rattle.run.proofs.Run.signature.Statement.{statement}
-use Rattle.run.proofs.Run.signature.Tie as tie
+use Rattle.answers.specs.Answers.{inBatch}
+use Rattle.answers.specs.Answers.{signatureOf}
+use Rattle.answers.proofs.signature_at.Statement.{statement}
+use Rattle.answers.proofs.signature_at.Tie as tie
 
 -- (u,k) of the batch of a run at stage 5: both are at least 1, and their place is among the 512
 placed : (r : Run) (u k : ℕ) → stageOf r ≡ 5 → inBatch r u k ≡ true → (1 ≤ u) × (1 ≤ k) × ((u - 1) * r .setup .a + (k - 1) < 512)
@@ -41,11 +42,11 @@ stage-of-requires c κs = search needs
 returns : tie.Need-returns
 unfolding signatureOf
 returns c =
-    let early : eqb (stageOf (c .before .before .args .self)) 5 ≡ false = is-not (c .before .stage-of .ensures) (c .if1 .taken) in
+    let early : eqb (stageOf (c .before .before .args .run)) 5 ≡ false = is-not (c .before .stage-of .ensures) (c .if1 .taken) in
     rw early
 
 -- past the first test the run is at stage 5
-done : (c : tie.Else1) → stageOf (c .before .before .args .self) ≡ 5
+done : (c : tie.Else1) → stageOf (c .before .before .args .run) ≡ 5
 done c = sym (c .before .stage-of .ensures) ∙ c .if1 .left
 
 in-batch-requires : tie.Need-in-batch-requires
@@ -56,7 +57,7 @@ unfolding signatureOf
 returns-2 c = rw (eq-eqb _ _ (done (c .before .before)), fails (c .before .in-batch .ensures) (c .if2 .taken))
 
 here : (c : tie.Else2) → let a = c .before .before .before .before .args in
-    (1 ≤ a .u) × (1 ≤ a .k) × ((a .u - 1) * a .self .setup .a + (a .k - 1) < 512)
+    (1 ≤ a .u) × (1 ≤ a .k) × ((a .u - 1) * a .run .setup .a + (a .k - 1) < 512)
 here c = placed _ _ _ (done (c .before .before)) (holds (c .before .in-batch .ensures) (c .if2 .left))
 
 sub-at : tie.Need-sub-at
@@ -92,8 +93,8 @@ returns-3 c =
     let e = c .before .before .before in
     rw (eq-eqb _ _ (done (e .before .before)), holds (e .before .in-batch .ensures) (e .if2 .left)) refl
 
-pub signature-spec : {M : Type 1} → statement M
-signature-spec =
+pub signature-at-spec : {M : Type 1} → statement M
+signature-at-spec =
     tie.close
     (tie.spec
     stage-of-requires
