@@ -146,7 +146,8 @@ impl Run {
         if self.well_formed() { self.stage } else { 6 }
     }
 
-    fn refuse(self, number: u8) -> Reply
+    // The run with a number: a refusal's, or 0.
+    fn answer(self, number: u8) -> Reply
         ensures { λ r. ⌜ r ≡ refused self number ⌝ }
     {
         Reply {
@@ -160,7 +161,7 @@ impl Run {
     {
         let number = records::setup_refusal(bytes);
         if number != 0 {
-            return self.refuse(number);
+            return self.answer(number);
         }
         let setup = Setup::read(bytes);
         Reply {
@@ -177,7 +178,7 @@ impl Run {
         let old = self.dealings;
         let number = old.number(setup, bytes);
         if number != 0 {
-            return self.refuse(number);
+            return self.answer(number);
         }
         let dealings = old.with(setup, bytes);
         let mut next = self;
@@ -193,25 +194,33 @@ impl Run {
         }
     }
 
+    // With one more complaint row.
+    fn with_complaint(self, bytes: &[u8]) -> Run
+        requires { ⌜ wellFormed self ≡ true ⌝ }
+        ensures { λ r. ⌜ r ≡ afterComplaint self (now (bytes .entry)) ⌝ }
+    {
+        let setup = self.setup;
+        let old = self.complaints;
+        let complaints = old.with(bytes);
+        let mut next = self;
+        next.stage = complaints.stage(setup);
+        next.complaints = complaints;
+        next
+    }
+
     fn take_complaint(self, bytes: &[u8]) -> Reply
         requires { ⌜ wellFormed self ≡ true ⌝ }
         ensures { λ r. ⌜ r ≡ answered self (complaintNumber (self .setup) (self .dealings) (self .complaints) (now (bytes .entry))) (afterComplaint self (now (bytes .entry))) ⌝ }
     {
         let setup = self.setup;
         let dealings = self.dealings;
-        let old = self.complaints;
-        let number = old.number(setup, dealings, bytes);
-        if number != 0 {
-            return self.refuse(number);
+        let complaints = self.complaints;
+        let refusal = complaints.number(setup, dealings, bytes);
+        let next = self.with_complaint(bytes);
+        if refusal != 0 {
+            return self.answer(refusal);
         }
-        let complaints = old.with(bytes);
-        let mut next = self;
-        next.stage = complaints.stage(setup);
-        next.complaints = complaints;
-        Reply {
-            run: next,
-            number: 0,
-        }
+        next.answer(0)
     }
 
     fn take_challenges(self, bytes: &[u8]) -> Reply
@@ -220,7 +229,7 @@ impl Run {
     {
         let number = records::challenges_refusal(self.setup.n, self.setup.t, self.setup.a, bytes);
         if number != 0 {
-            return self.refuse(number);
+            return self.answer(number);
         }
         let old = self.challenges;
         let count = self.setup.a as u16 * records::batch(self.setup.n, self.setup.t) as u16;
@@ -260,7 +269,7 @@ impl Run {
         let old = self.responses;
         let number = old.number(setup, dealings, complaints, challenges, bytes);
         if number != 0 {
-            return self.refuse(number);
+            return self.answer(number);
         }
         let responses = old.with(setup, bytes);
         let mut next = self;
@@ -305,7 +314,7 @@ impl Run {
             Handler::TakeComplaint => self.take_complaint(bytes),
             Handler::TakeChallenges => self.take_challenges(bytes),
             Handler::TakeResponse => self.take_response(bytes),
-            Handler::Refuse(number) => self.refuse(number),
+            Handler::Refuse(number) => self.answer(number),
         }
     }
 }

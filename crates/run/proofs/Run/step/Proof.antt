@@ -62,8 +62,8 @@ take-response-requires c κs = formed (c .before .before) (c .enum-told5 .given 
 enum-known-handler : tie.Need-enum-known-handler
 enum-known-handler c = search needs
 
-refuse-requires : tie.Need-refuse-requires
-refuse-requires c κs = search needs
+answer-requires : tie.Need-answer-requires
+answer-requires c κs = search needs
 
 returns : tie.Need-returns
 unfolding handled
@@ -87,7 +87,7 @@ returns-5 c = reply (c .before .before .before) (c .before .enum-told5 .given .1
 
 returns-6 : tie.Need-returns-6
 unfolding handled
-returns-6 c = reply (c .before .before .before .before) (c .before .before .handler .given .1) (c .refuse .ensures)
+returns-6 c = reply (c .before .before .before .before) (c .before .before .handler .given .1) (c .answer .ensures)
 
 pub step-spec : {M : Type 1} → statement M
 step-spec =
@@ -107,7 +107,7 @@ step-spec =
     enum-told-5
     take-response-requires
     enum-known-handler
-    refuse-requires
+    answer-requires
     returns
     returns-2
     returns-3

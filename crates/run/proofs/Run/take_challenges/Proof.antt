@@ -14,11 +14,11 @@ use Rattle.run.proofs.Run.take_challenges.Tie as tie
 challenges-refusal-requires : tie.Need-challenges-refusal-requires
 challenges-refusal-requires c κs = search needs
 
-refuse-requires : tie.Need-refuse-requires
-refuse-requires c κs = search needs
+answer-requires : tie.Need-answer-requires
+answer-requires c κs = search needs
 
 returns : tie.Need-returns
-returns c = c .refuse .ensures ∙ refused-by (c .before .before .challenges-refusal .ensures) _ _ (c .before .if1 .taken)
+returns c = c .answer .ensures ∙ refused-by (c .before .before .challenges-refusal .ensures) _ _ (c .before .if1 .taken)
 
 cast-count : tie.Need-cast-count
 cast-count c = search needs
@@ -63,7 +63,7 @@ take-challenges-spec =
     tie.close
     (tie.spec
     challenges-refusal-requires
-    refuse-requires
+    answer-requires
     returns
     cast-count
     batch-requires

@@ -1,47 +1,37 @@
 -- `Run::take_complaint` meets its contract. Assumes nothing.
-use borrow.Author.Tests.{ne-eqb}
 use borrow.Author.Needs.{needs}
-use native.Mathlib.Omega.{arith}
 use mathlib.Core.Path.{_∙_}
-use Rattle.run.specs.RunLaws.{formed-of}
-use Rattle.run.specs.Steps.{afterComplaint}
+use Rattle.run.proofs.Numbers.{refused-by, accepted-by}
 use Rattle.run.proofs.Run.take_complaint.Statement.{statement}
 use Rattle.run.proofs.Run.take_complaint.Tie as tie
 
 number-requires : tie.Need-number-requires
 number-requires c κs = search needs
 
-refuse-requires : tie.Need-refuse-requires
-refuse-requires c κs = search needs
+with-complaint-requires : tie.Need-with-complaint-requires
+with-complaint-requires c κs = search needs
+
+answer-requires : tie.Need-answer-requires
+answer-requires c κs = search needs
 
 returns : tie.Need-returns
-returns c = c .refuse .ensures ∙ rw (← c .before .before .number .ensures, ne-eqb _ _ (c .before .if1 .taken))
+returns c = c .answer .ensures ∙ refused-by (c .before .before .before .number .ensures) _ _ (c .before .if1 .taken)
 
-with-requires : tie.Need-with-requires
-with-requires c κs =
-    let start = c .before .before .before .before .before .before in
-    let formed = formed-of (start .args .self) (start .pre) in
-    omega arith
-
-stage-requires : tie.Need-stage-requires
-stage-requires c κs =
-    let start = c .before .before .before .before .before .before .before in
-    let formed = formed-of (start .args .self) (start .pre) in
-    omega arith
+answer-requires-2 : tie.Need-answer-requires-2
+answer-requires-2 c κs = search needs
 
 returns-2 : tie.Need-returns-2
-unfolding afterComplaint
 returns-2 c =
-    let passed = c .before .before in
-    rw (← passed .before .number .ensures, passed .if1 .left, c .stage .ensures, c .before .with .ensures)
+    let made = c .before .before in
+    c .answer2 .ensures ∙ accepted-by (made .before .number .ensures) _ (c .before .if1 .left) (made .with-complaint .ensures)
 
 pub take-complaint-spec : {M : Type 1} → statement M
 take-complaint-spec =
     tie.close
     (tie.spec
     number-requires
-    refuse-requires
+    with-complaint-requires
+    answer-requires
     returns
-    with-requires
-    stage-requires
+    answer-requires-2
     returns-2)

@@ -19,11 +19,11 @@ use Rattle.run.proofs.Run.take_dealing.Tie as tie
 number-requires : tie.Need-number-requires
 number-requires c κs = search needs
 
-refuse-requires : tie.Need-refuse-requires
-refuse-requires c κs = search needs
+answer-requires : tie.Need-answer-requires
+answer-requires c κs = search needs
 
 returns : tie.Need-returns
-returns c = c .refuse .ensures ∙ refused-by (c .before .before .number .ensures) _ _ (c .before .if1 .taken)
+returns c = c .answer .ensures ∙ refused-by (c .before .before .number .ensures) _ _ (c .before .if1 .taken)
 
 with-requires : tie.Need-with-requires
 unfolding dealingNumber
@@ -68,4 +68,4 @@ returns-2 c =
 pub take-dealing-spec : {M : Type 1} → statement M
 take-dealing-spec =
     tie.close
-    (tie.spec number-requires refuse-requires returns with-requires sub-if2 returns-2)
+    (tie.spec number-requires answer-requires returns with-requires sub-if2 returns-2)

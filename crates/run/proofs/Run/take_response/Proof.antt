@@ -22,11 +22,11 @@ number-requires c κs =
     let start = c .before .before .before .before .before .before in
     bounds-test (formed-of (start .args .self) (start .pre) .bounds)
 
-refuse-requires : tie.Need-refuse-requires
-refuse-requires c κs = search needs
+answer-requires : tie.Need-answer-requires
+answer-requires c κs = search needs
 
 returns : tie.Need-returns
-returns c = c .refuse .ensures ∙ refused-by (c .before .before .number .ensures) _ _ (c .before .if1 .taken)
+returns c = c .answer .ensures ∙ refused-by (c .before .before .number .ensures) _ _ (c .before .if1 .taken)
 
 with-requires : tie.Need-with-requires
 with-requires c κs =
@@ -91,7 +91,7 @@ take-response-spec =
     tie.close
     (tie.spec
     number-requires
-    refuse-requires
+    answer-requires
     returns
     with-requires
     cast-rows

@@ -10,11 +10,11 @@ use Rattle.run.proofs.Run.take_setup.Tie as tie
 setup-refusal-requires : tie.Need-setup-refusal-requires
 setup-refusal-requires c κs = search needs
 
-refuse-requires : tie.Need-refuse-requires
-refuse-requires c κs = search needs
+answer-requires : tie.Need-answer-requires
+answer-requires c κs = search needs
 
 returns : tie.Need-returns
-returns c = c .refuse .ensures ∙ refused-by (c .before .before .setup-refusal .ensures) _ _ (c .before .if1 .taken)
+returns c = c .answer .ensures ∙ refused-by (c .before .before .setup-refusal .ensures) _ _ (c .before .if1 .taken)
 
 read-requires : tie.Need-read-requires
 read-requires c κs = search needs
@@ -33,7 +33,7 @@ take-setup-spec =
     tie.close
     (tie.spec
     setup-refusal-requires
-    refuse-requires
+    answer-requires
     returns
     read-requires
     begun-requires
