@@ -1,9 +1,9 @@
 // Makes a complete log with the writers and gives it to a run: a committee of 6 with threshold 1 and packing 2, in which dealer 4 sends a wrong
 // share to holder 1 and is blamed. Prints each reply, the sets as masks and the stage, then every R and phi.
+use answers::Nonce;
+use answers::Signature;
 use field::Scalar;
-use run::Nonce;
 use run::Run;
-use run::Signature;
 
 fn print(x: u64) {
     io::print_decimal(1, x);
@@ -111,10 +111,10 @@ fn respond(run: Run, j: u8) -> Run {
 fn say(run: Run, u: u8, k: u8) {
     print(u as u64);
     print(k as u64);
-    if let Nonce::Is(r) = run.nonce(u, k) {
+    if let Nonce::Is(r) = answers::nonce_at(run, u, k) {
         print(r.0 as u64);
     }
-    if let Signature::Is(phi) = run.signature(u, k) {
+    if let Signature::Is(phi) = answers::signature_at(run, u, k) {
         print(phi.0 as u64);
     }
     io::write_all(1, b"\n");
@@ -138,7 +138,7 @@ fn main() {
         run = respond(run, responders[h]);
     }
     io::write_all(1, b"\n");
-    let sets = run.sets();
+    let sets = answers::sets_of(run);
     print(sets.hold);
     print(sets.qual);
     print(sets.bad);

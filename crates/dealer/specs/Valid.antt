@@ -4,12 +4,10 @@ use mathlib.Core.Bool.{true}
 use mathlib.Core.List.{List, [], _∷_}
 use Prim.Native.Nat.{ℕ, zero, suc, _+_, _*_, _-_, _≤_, _<_}
 use native.Mathlib.Omega.{arith}
-use borrow.Author.Tests.{eq-eqb}
-use lib.Dec.{eqb}
 use lib.ListN.{length, getD, length-append}
-use Rattle.field.specs.declared.Element.{Element}
-use Rattle.field.specs.Definitions.{scalar, element, generator, isElement, IsScalar, raise}
-use Rattle.field.specs.ElementLaws.{generator-element}
+use Rattle.field.specs.Definitions.{scalar, element, generator, sameElement, isElement, IsScalar, raise}
+use Rattle.field.specs.ScalarLaws.{scalar-word}
+use Rattle.field.specs.ElementLaws.{generator-element, is-same}
 use Rattle.interpolation.specs.Definitions.{party, committedPoint}
 use Rattle.interpolation.specs.Rows.{elementAt-cong}
 use Rattle.interpolation.specs.Laws.{scalarAt-range, raise-scalarAt}
@@ -19,7 +17,7 @@ use Rattle.records.specs.Tags.{setupLength, dealingLength}
 use Rattle.records.specs.Refusals.{setupRefusal, sharesFrom, dealingRefusal}
 use Rattle.records.specs.Laws.{setup-passes, dealing-passes}
 use Rattle.encoding.specs.Bytes.{four, fours, powerOfFour}
-use Rattle.encoding.specs.ByteLaws.{power-lt, power-element, scalar-lt, length-fours, word-fours, word-last, number-at}
+use Rattle.encoding.specs.ByteLaws.{power-lt, power-element, length-fours, word-fours, word-last, number-at}
 use Rattle.protocol.specs.Transcript.{dealingAt, validShare}
 use Rattle.dealer.specs.Dealt.{setupRefused, setupBytes, dealingRefused, shareFor, dealingBytes}
 use Rattle.dealer.specs.Fits.{setup-fits, dealing-fits}
@@ -59,7 +57,7 @@ setup-unrefused n t a s shares room e =
 share-valid : (t a : ℕ) (values : List ℕ) (j : ℕ) → validShare t a (λ v. raise generator (scalar (getD values v 0))) j (shareFor t a values j) ≡ true
 unfolding validShare dealingAt shareFor
 share-valid t a values j =
-    eq-eqb _ _ (ap (λ (v : Element). v .0) (raise-scalarAt generator generator-element (committedPoint a) (quorum t a) (λ v. scalar (getD values v 0)) (party j)))
+    is-same _ _ (raise-scalarAt generator generator-element (committedPoint a) (quorum t a) (λ v. scalar (getD values v 0)) (party j))
 
 share-range : (t a : ℕ) (values : List ℕ) (j : ℕ) → IsScalar (shareFor t a values j)
 unfolding shareFor
@@ -77,7 +75,7 @@ module _ (n t a i : ℕ) (values : List ℕ) where
       let committed = fours (quorum t a) (λ k. powerOfFour (getD values k 0)) in
       let at : 4 + 4 * quorum t a ≡ length (68 ∷ 69 ∷ i ∷ 0 ∷ committed) = omega (arith, length-fours (quorum t a) (λ k. powerOfFour (getD values k 0))) in
       ap (λ (p : ℕ). word (dealingBytes n t a i values) p j) at
-      ∙ word-last (68 ∷ 69 ∷ i ∷ 0 ∷ committed) n (λ k. shareFor t a values (k + 1) .0) j l (scalar-lt _ (share-range t a values (j + 1)))
+      ∙ word-last (68 ∷ 69 ∷ i ∷ 0 ∷ committed) n (λ k. shareFor t a values (k + 1) .0) j l (scalar-word _ (share-range t a values (j + 1)))
 
   dealing-length : length (dealingBytes n t a i values) ≡ dealingLength n t a
   unfolding dealingBytes dealingLength
@@ -90,7 +88,7 @@ unfolding validShare dealingAt
 dealing-valid n t a i values j p l =
     let place : j - 1 + 1 ≡ j = omega arith in
     rw (dealing-share n t a i values (j - 1) (omega arith), place)
-    (ap (λ (v : Element). eqb (raise generator (shareFor t a values j) .0) (v .0))
+    (ap (sameElement (raise generator (shareFor t a values j)))
     (elementAt-cong (committedPoint a) (committedPoint a) (quorum t a) (λ v. element (word (dealingBytes n t a i values) 4 v)) (λ v. raise generator (scalar (getD values v 0))) (party j)
     (λ v h. refl) (λ v h. ap element (dealing-commitment n t a i values v h)))
     ∙ share-valid t a values j)

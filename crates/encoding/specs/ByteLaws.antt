@@ -5,14 +5,12 @@ use mathlib.Core.Bool.{true}
 use mathlib.Core.List.{List, [], _++_, append-nil, append-assoc}
 use Prim.Native.Nat.{ℕ, zero, suc, _+_, _*_, _/_, _%_, _^_, _<_}
 use native.Mathlib.Omega.{arith}
-use native.Mathlib.Nat.{lt-trans, add-zero, add-assoc, div-div-eq-div-mul}
+use native.Mathlib.Nat.{add-zero, add-assoc, div-div-eq-div-mul}
 use native.Mathlib.Decide.{ℕ-discrete}
 use lib.ListN.{length, length-append}
 use lib.Seq.{getD-append-add}
-use Rattle.field.specs.declared.Scalar.{Scalar}
-use Rattle.field.specs.Definitions.{scalar, generator, isElement, IsScalar}
-use Rattle.field.specs.ScalarLaws.{q<word, range}
-use Rattle.field.specs.ElementLaws.{P<word, generator-element, raise-element, raise-below}
+use Rattle.field.specs.Definitions.{scalar, generator, isElement, raise}
+use Rattle.field.specs.ElementLaws.{generator-element, raise-element, raise-below, below-word}
 use Rattle.records.specs.Bytes.{byteAt, numberAt, word}
 use Rattle.encoding.specs.Bytes.{four, fours, powerOfFour}
 
@@ -77,13 +75,10 @@ word-last head m f i l b = ap (λ (s : List ℕ). word (head ++ s) (length head)
 pub number-at : (head : List ℕ) (x : ℕ) (rest : List ℕ) → x < 2 ^ 32 → numberAt (head ++ (four x ++ rest)) (length head) ≡ x
 number-at head x rest l = ap (numberAt (head ++ (four x ++ rest))) (sym (add-zero (length head))) ∙ number-after head (four x ++ rest) 0 ∙ number-four x rest l
 
--- ---- the numbers written have four bytes
+-- ---- the powers written
 
 pub power-lt : (x : ℕ) → powerOfFour x < 2 ^ 32
-power-lt x = lt-trans (raise-below generator (scalar x)) P<word
+power-lt x = below-word (raise generator (scalar x)) (raise-below generator (scalar x))
 
 pub power-element : (x : ℕ) → isElement (powerOfFour x) ≡ true
 power-element x = raise-element generator (scalar x) generator-element
-
-pub scalar-lt : (x : Scalar) → IsScalar x → x .0 < 2 ^ 32
-scalar-lt x h = lt-trans (range (x .0) h) q<word

@@ -1,5 +1,5 @@
 -- Laws of the step: by the tag, by the stage, and by the number that the record's handler finds. Assumes nothing.
-use mathlib.Core.Path.{_≡_, refl, sym, ap}
+use mathlib.Core.Path.{_≡_, refl, sym, ap, _∙_}
 use mathlib.Core.List.{List}
 use Prim.Native.Nat.{ℕ}
 use lib.Dec.{eqb}
@@ -22,6 +22,10 @@ step-tag g r s e = ap (λ (k : Tag). handled (handlerAt k (stageOf r)) r s) e
 pub at-stage : (g : Tag) (r : Run) (h : Handler) → stageOf r ≡ takenAt g → atStage g (stageOf r) h ≡ h
 unfolding atStage
 at-stage g r h e = rw (eq-eqb (stageOf r) (takenAt g) e)
+
+-- so does the record in its step
+pub step-taken : (g : Tag) (r : Run) (s : List ℕ) → tagOf s ≡ g → stageOf r ≡ takenAt g → stepOf r s ≡ handled (handlerAt g (takenAt g)) r s
+step-taken g r s e z = step-tag g r s e ∙ ap (λ (k : ℕ). handled (handlerAt g k) r s) z
 
 -- at another it is refused
 pub off-stage : (g : Tag) (r : Run) (h : Handler) → (stageOf r ≡ takenAt g → ⊥) → atStage g (stageOf r) h ≡ Refuse 11

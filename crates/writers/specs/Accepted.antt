@@ -2,50 +2,45 @@
 use mathlib.Core.Path.{_≡_, refl, ap, _∙_}
 use mathlib.Core.Bool.{true, false, not, not-or-self}
 use mathlib.Core.List.{List, [], _∷_}
-use Prim.Native.Nat.{ℕ, _+_, _-_, _≤_, _<_}
+use Prim.Native.Nat.{ℕ, _+_, _-_, _<_}
 use native.Mathlib.Omega.{arith}
-use borrow.Author.Tests.{eq-eqb, le-ltb}
-use lib.ListN.{length, getD}
-use Rattle.lists.specs.Tests.{all-make, require-pass, orNext}
+use borrow.Author.Tests.{le-ltb}
+use lib.ListN.{length}
+use Rattle.lists.specs.Tests.{all-make, require-pass, next-pass}
 use Rattle.sets.specs.Masks.{has, maskOf}
 use Rattle.sets.specs.MaskLaws.{maskOf-lt, has-maskOf}
 use Rattle.field.specs.Definitions.{scalar, generator, IsScalar, raise}
-use Rattle.field.specs.ScalarLaws.{plus-range}
+use Rattle.field.specs.ScalarLaws.{scalar-word, plus-range}
 use Rattle.interpolation.specs.Definitions.{party}
 use Rattle.records.specs.Parameters.{batch}
 use Rattle.records.specs.Bytes.{byteAt, numberAt, word}
 use Rattle.records.specs.Tags.{tagOf, complaintLength, responseLength}
 use Rattle.records.specs.Laws.{complaint-passes, response-passes}
-use Rattle.encoding.specs.ByteLaws.{scalar-lt, length-fours, word-last, number-at}
-use Rattle.protocol.specs.Transcript.{validShare, keyAt}
+use Rattle.encoding.specs.ByteLaws.{length-fours, word-last, number-at}
+use Rattle.protocol.specs.Transcript.{keyAt}
 use Rattle.dealer.specs.Dealt.{setupRefused, setupBytes, dealingRefused, dealingBytes}
 use Rattle.dealer.specs.Valid.{setup-unrefused, dealing-unrefused}
+use Rattle.dealing.specs.Definitions.{keyIn, dealingNumber, mayBlame}
+use Rattle.complaint.specs.Definitions.{complaintNumber}
+use Rattle.response.specs.Definitions.{transcript, responseNumber}
 use Rattle.run.specs.declared.Run.{Run}
 use Rattle.run.specs.declared.Reply.{Reply}
 use Rattle.run.specs.Runs.{fresh, begun, wellFormed, stageOf, transcriptOf}
-use Rattle.dealing.specs.Definitions.{dealingNumber, mayBlame}
-use Rattle.complaint.specs.Definitions.{complaintNumber}
-use Rattle.response.specs.Definitions.{responseNumber}
-use Rattle.run.specs.Steps.{taken, stepAt, stepOf}
+use Rattle.run.specs.Steps.{takenAt, atStage, handlerAt, handled, stepOf}
+use Rattle.run.specs.StepLaws.{step-taken, answered-number}
 use Rattle.writers.specs.Writers.{complaintRefused, complaintBytes, responseRefused, responseFor, responseBytes}
 use Rattle.writers.specs.WriterLaws.{complaint-fits, mask-lt, response-fits}
-use Rattle.writers.specs.Honest.{number-passes}
-
--- ---- steps
+use Rattle.writers.specs.Honest.{RightShares, number-passes}
 
 -- the tag is the first two bytes
-step-tag : (x y : ℕ) (rest : List ℕ) (r : Run) → stepOf r (x ∷ y ∷ rest) ≡ stepAt (tagOf (x ∷ y ∷ [])) r (x ∷ y ∷ rest)
-unfolding stepOf tagOf byteAt
-step-tag x y rest r = rw (le-ltb (length (x ∷ y ∷ rest)) 2 (omega arith))
+tag-first : (x y : ℕ) (rest : List ℕ) → tagOf (x ∷ y ∷ rest) ≡ tagOf (x ∷ y ∷ [])
+unfolding tagOf byteAt
+tag-first x y rest = rw (le-ltb (length (x ∷ y ∷ rest)) 2 (omega arith))
 
--- a record at its stage that is not refused is accepted
-taken-pass : (g : ℕ) (r : Run) (k : ℕ) (next : Run) → stageOf r ≡ g → k ≡ 0 → taken g r k next .number ≡ 0
-unfolding taken
-taken-pass g r k next e z = rw (eq-eqb (stageOf r) g e, z)
-
-next-pass : (k next : ℕ) → k ≡ 0 → next ≡ 0 → orNext k next ≡ 0
-unfolding orNext
-next-pass k next e z = rw e z
+-- a record that begins with a tag, at the stage that takes it
+step-first : (x y : ℕ) (rest : List ℕ) (r : Run) → let g = tagOf (x ∷ y ∷ []) in
+    stageOf r ≡ takenAt g → stepOf r (x ∷ y ∷ rest) ≡ handled (handlerAt g (takenAt g)) r (x ∷ y ∷ rest)
+step-first x y rest r e = step-taken _ r _ (tag-first x y rest) e
 
 -- ---- SU: by a fresh run
 
@@ -54,11 +49,11 @@ unfolding stageOf fresh begun
 fresh-stage = refl
 
 pub setup-accepted : (n t a s : ℕ) (shares : List ℕ) (room : ℕ) → setupRefused n t a s shares room ≡ 0 → stepOf fresh (setupBytes n t a s shares) .number ≡ 0
-unfolding setupBytes stepAt tagOf byteAt
+unfolding setupBytes takenAt handlerAt atStage handled tagOf byteAt
 setup-accepted n t a s shares room e =
-    ap (λ (p : Reply). p .number) (step-tag 83 85 _ fresh)
-    ∙ taken-pass 0 fresh _ _ fresh-stage
-    (setup-unrefused n t a s shares room e)
+    ap (λ (p : Reply). p .number) (step-first 83 85 _ fresh fresh-stage)
+    ∙ answered-number fresh _ _
+    ∙ setup-unrefused n t a s shares room e
 
 -- ---- DE: at stage 1 of a run with the same n, t, a in which i has no dealing
 
@@ -67,16 +62,16 @@ pub dealing-accepted : (r : Run) (i : ℕ) (values : List ℕ) (room : ℕ)
     → dealingRefused (r .setup .n) (r .setup .t) (r .setup .a) i values room ≡ 0
     → has (r .dealings .dealers) i ≡ false
     → stepOf r (dealingBytes (r .setup .n) (r .setup .t) (r .setup .a) i values) .number ≡ 0
-unfolding stepAt tagOf byteAt dealingBytes dealingNumber
+unfolding takenAt handlerAt atStage handled tagOf byteAt dealingBytes dealingNumber
 dealing-accepted r i values room stage e new =
     let n = r .setup .n in
     let t = r .setup .t in
     let a = r .setup .a in
-    ap (λ (p : Reply). p .number) (step-tag 68 69 _ r)
-    ∙ taken-pass 1 r _ _ stage
-    (next-pass _ _
+    ap (λ (p : Reply). p .number) (step-first 68 69 _ r stage)
+    ∙ answered-number r _ _
+    ∙ next-pass _ _
     (dealing-unrefused n t a i values room e)
-    (require-pass _ _ _ (ap not new) refl))
+    (require-pass _ _ _ (ap not new) refl)
 
 -- ---- VE: by the run it was made from, if j has no verdict there
 
@@ -85,14 +80,14 @@ unfolding complaintBytes
 complaint-mask r j w = number-at (86 ∷ 69 ∷ j ∷ 0 ∷ []) (maskOf (r .setup .n) (mayBlame (r .dealings) j)) [] (mask-lt r j w)
 
 pub complaint-accepted : (r : Run) (j room : ℕ) → complaintRefused r j room ≡ 0 → has (r .complaints .holders) j ≡ false → stepOf r (complaintBytes r j) .number ≡ 0
-unfolding stepAt tagOf byteAt complaintBytes complaintNumber complaintLength
+unfolding takenAt handlerAt atStage handled tagOf byteAt complaintBytes complaintNumber complaintLength
 complaint-accepted r j room e new =
     let n = r .setup .n in
     let fits = complaint-fits r j room e in
     let mask = complaint-mask r j (fits .formed) in
-    ap (λ (p : Reply). p .number) (step-tag 86 69 _ r)
-    ∙ taken-pass 2 r _ _ (fits .stage)
-    (next-pass _ _
+    ap (λ (p : Reply). p .number) (step-first 86 69 _ r (fits .stage))
+    ∙ answered-number r _ _
+    ∙ next-pass _ _
     (complaint-passes n (complaintBytes r j)
     (record {
       sender-pos = fits .party-pos;
@@ -104,7 +99,7 @@ complaint-accepted r j room e new =
     (require-pass _ _ _ (ap not new)
     (require-pass _ _ _
     (all-make n _ (λ i l. rw (mask, has-maskOf n (mayBlame (r .dealings) j) (i + 1) (omega arith) (omega arith)) (not-or-self (mayBlame (r .dealings) j (i + 1)))))
-    refl)))
+    refl))
 
 -- ---- RE: by the run it was made from, if 4^F(j) = S_j, the shares of QUAL are right and j has no accepted response
 
@@ -116,7 +111,7 @@ module _ (r : Run) (j key : ℕ) (shares : List ℕ) where
   response-word : (x : ℕ) → x < batch (r .setup .n) (r .setup .t) → word (responseBytes r j key shares) 4 x ≡ responseFor r j key shares (x + 1) .0
   unfolding responseBytes
   response-word x l =
-      word-last (82 ∷ 69 ∷ j ∷ 0 ∷ []) (batch (r .setup .n) (r .setup .t)) (λ u. responseFor r j key shares (u + 1) .0) x l (scalar-lt _ (number-range (x + 1)))
+      word-last (82 ∷ 69 ∷ j ∷ 0 ∷ []) (batch (r .setup .n) (r .setup .t)) (λ u. responseFor r j key shares (u + 1) .0) x l (scalar-word _ (number-range (x + 1)))
 
   response-length : length (responseBytes r j key shares) ≡ responseLength (r .setup .n) (r .setup .t)
   unfolding responseBytes responseLength
@@ -125,16 +120,15 @@ module _ (r : Run) (j key : ℕ) (shares : List ℕ) where
 pub response-accepted : (r : Run) (j key : ℕ) (shares : List ℕ) (room : ℕ)
     → responseRefused r j key shares room ≡ 0
     → has (r .responses .responders) j ≡ false
-    → raise generator (scalar key) ≡ keyAt (transcriptOf r) (party j)
-    → ((i : ℕ) → 0 < i → i ≤ r .setup .n → transcriptOf r .qual i ≡ true
-    → validShare (r .setup .t) (r .setup .a) (transcriptOf r .commitment i) j (scalar (getD shares (i - 1) 0)) ≡ true)
+    → raise generator (scalar key) ≡ keyAt (r .setup .t) (r .setup .a) (keyIn (r .setup)) (party j)
+    → RightShares (transcriptOf r) j shares
     → stepOf r (responseBytes r j key shares) .number ≡ 0
-unfolding stepAt tagOf byteAt transcriptOf responseFor responseBytes responseNumber
+unfolding takenAt handlerAt atStage handled tagOf byteAt transcriptOf transcript responseFor responseBytes responseNumber
 response-accepted r j key shares room e new own right =
     let fits = response-fits r j key shares room e in
-    ap (λ (p : Reply). p .number) (step-tag 82 69 _ r)
-    ∙ taken-pass 4 r _ _ (fits .stage)
-    (next-pass _ _
+    ap (λ (p : Reply). p .number) (step-first 82 69 _ r (fits .stage))
+    ∙ answered-number r _ _
+    ∙ next-pass _ _
     (response-passes (r .setup .n) (r .setup .t) (responseBytes r j key shares)
     (record {
       sender-pos = fits .party-pos;
@@ -147,4 +141,4 @@ response-accepted r j key shares room e new own right =
     (require-pass _ _ _ (fits .holder)
     (require-pass _ _ _
     (all-make (batch (r .setup .n) (r .setup .t)) _ (λ x l. rw (response-word r j key shares x l) (number-passes (transcriptOf r) j shares right key own (x + 1))))
-    refl))))
+    refl)))

@@ -16,10 +16,13 @@ use Rattle.sets.specs.MaskLaws.{has-minus, maskOf-lt}
 use Rattle.field.specs.Definitions.{isScalar}
 use Rattle.records.specs.Tags.{complaintLength, responseLength}
 use Rattle.records.specs.Laws.{party-of}
-use Rattle.run.specs.declared.Run.{Run}
-use Rattle.run.specs.Runs.{wellFormed, stageOf, transcriptOf, qualOf}
 use Rattle.dealing.specs.Definitions.{mayBlame}
+use Rattle.complaint.specs.Definitions.{blamedBy, unblamed}
+use Rattle.response.specs.Definitions.{transcript}
+use Rattle.run.specs.declared.Run.{Run}
+use Rattle.run.specs.Runs.{wellFormed, stageOf, transcriptOf}
 use Rattle.run.specs.RunLaws.{formed-of, stage-live}
+use Rattle.answers.specs.Answers.{unblamedOf}
 use Rattle.writers.specs.Writers.{complaintRefused, responseRefused}
 
 -- ---- VE
@@ -61,9 +64,9 @@ sharesRefused r key shares room =
     (require (eqb room (responseLength (r .setup .n) (r .setup .t))) 9 0))
 
 -- QUAL as a mask has the members of QUAL
-pub qual-is : (r : Run) → has (qualOf r) ≡ transcriptOf r .qual
-unfolding qualOf transcriptOf
-qual-is r = fun-ext (has-minus (r .dealings .dealers) (r .complaints .blamed))
+pub qual-is : (r : Run) → has (unblamedOf r) ≡ transcriptOf r .qual
+unfolding unblamedOf unblamed transcriptOf transcript
+qual-is r = fun-ext (has-minus (r .dealings .dealers) (blamedBy (r .setup .n) (r .complaints)))
 
 pub record ResponseFits (r : Run) (j : ℕ) (shares : List ℕ) (room : ℕ) : Type 0 where
   pub stage : stageOf r ≡ 4

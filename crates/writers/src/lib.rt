@@ -104,7 +104,7 @@ fn shares_refused(run: Run, key: u32, shares: &[u32], room: usize) -> u8
     if !Scalar::accepts(key) {
         return 6;
     }
-    if !shares_in_range(run.qual(), n, shares) {
+    if !shares_in_range(answers::unblamed(run), n, shares) {
         return 6;
     }
     if room != records::response_length(n, run.setup.t) {
@@ -151,7 +151,7 @@ fn put_responses(out: &mut [u8], run: Run, j: u8, key: u32, shares: &[u32])
     let n = run.setup.n;
     let a = run.setup.a;
     let count = records::batch(n, run.setup.t);
-    let qual = run.qual();
+    let qual = answers::unblamed(run);
     let challenges = run.challenges;
     let weights = interpolation::slot_points(a).weights(interpolation::point(j, 0));
     for u in 0..count {

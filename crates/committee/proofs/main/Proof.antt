@@ -165,9 +165,9 @@ write-all-requires :
     μ-loop4
 write-all-requires c κs = search needs
 
-sets-requires :
-    tie.Need-sets-requires Inv-loop μ-loop Inv-loop2 μ-loop2 Inv-loop3 μ-loop3 Inv-loop4 μ-loop4
-sets-requires c κs = search needs
+sets-of-requires :
+    tie.Need-sets-of-requires Inv-loop μ-loop Inv-loop2 μ-loop2 Inv-loop3 μ-loop3 Inv-loop4 μ-loop4
+sets-of-requires c κs = search needs
 
 print-requires :
     tie.Need-print-requires Inv-loop μ-loop Inv-loop2 μ-loop2 Inv-loop3 μ-loop3 Inv-loop4 μ-loop4
@@ -289,7 +289,7 @@ main-spec =
     loop3-again
     slice-aggregate-write-all
     write-all-requires
-    sets-requires
+    sets-of-requires
     print-requires
     print-requires-2
     print-requires-3

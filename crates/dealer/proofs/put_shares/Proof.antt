@@ -8,7 +8,8 @@ use lib.ListN.{length, getD}
 use Rattle.field.specs.declared.Scalar.{Scalar}
 use Rattle.field.specs.Definitions.{scalar}
 use Rattle.interpolation.specs.declared.Row.{Row}
-use Rattle.interpolation.specs.Definitions.{party, committedPoint}
+use Rattle.interpolation.specs.Definitions.{point, party, committedPoint}
+use Rattle.interpolation.specs.Laws.{party-is}
 use Rattle.interpolation.specs.Rows.{listed, weightsOf, sumOf}
 use Rattle.records.specs.Parameters.{quorum}
 use Rattle.records.specs.Laws.{bounds-of, quorum-max}
@@ -30,13 +31,13 @@ share-is : (t a : ℕ) (values : List ℕ) (j : ℕ) {m : ℕ} {list : List Scal
     → m ≡ quorum t a → length values ≡ quorum t a → quorum t a ≤ 64
     → list ≡ scalars (length values) (λ i. scalar (getD values i 0))
     → points ≡ listed m (committedPoint a)
-    → x ≡ party j
+    → x ≡ point j 0
     → weights ≡ weightsOf points x
     → share ≡ sumOf weights list
     → share ≡ shareFor t a values j
 unfolding shareFor
 share-is t a values j m k l e p x w h =
-    h ∙ rw (w, p, x, e, m, k) (scalars-interpolated (quorum t a) (committedPoint a) (λ v. scalar (getD values v 0)) (party j) l)
+    h ∙ rw (w, p, x, ← party-is j, e, m, k) (scalars-interpolated (quorum t a) (committedPoint a) (λ v. scalar (getD values v 0)) (party j) l)
 
 load-scalars-requires : tie.Need-load-scalars-requires Inv-loop μ-loop
 load-scalars-requires c κs =

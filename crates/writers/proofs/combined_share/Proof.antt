@@ -12,7 +12,7 @@ use Rattle.lists.specs.Tests.{pick, pick-case}
 use Rattle.sets.specs.Masks.{has}
 use Rattle.field.specs.declared.Scalar.{Scalar}
 use Rattle.field.specs.Definitions.{scalar, IsScalar, plus, times}
-use Rattle.field.specs.ScalarLaws.{0<q, in-range, plus-range, plus-zero, times-range}
+use Rattle.field.specs.ScalarLaws.{zero-range, plus-range, plus-zero, times-range}
 use Rattle.protocol.specs.Transcript.{coefficient}
 use Rattle.writers.specs.Writers.{combinedShare}
 use Rattle.writers.proofs.combined_share.Statement.{statement}
@@ -34,8 +34,8 @@ module _ (qual : ℕ → Bool) (shares : List ℕ) (u : ℕ) where
   sum-range : (i : ℕ) → IsScalar (combinedShare i qual shares u)
   unfolding combinedShare
   sum-range i =
-      fold-keeps plus (scalar 0) IsScalar (in-range 0<q) (λ x y h k. plus-range x y) i
-      (λ k l. pick-case IsScalar (qual (k + 1)) _ _ (λ e. times-range _ _) (λ e. in-range 0<q))
+      fold-keeps plus (scalar 0) IsScalar zero-range (λ x y h k. plus-range x y) i
+      (λ k l. pick-case IsScalar (qual (k + 1)) _ _ (λ e. times-range _ _) (λ e. zero-range))
 
 abbrev Inv-loop : tie.InvT-loop
 Inv-loop qual n shares u sum₀ i₀ sum i = (i ≤ n) × (sum ≡ combinedShare i (has qual) shares u)

@@ -11,7 +11,8 @@ use Rattle.sets.specs.Masks.{has}
 use Rattle.field.specs.declared.Scalar.{Scalar}
 use Rattle.field.specs.Definitions.{scalar, plus, times}
 use Rattle.interpolation.specs.declared.Row.{Row}
-use Rattle.interpolation.specs.Definitions.{party, slot}
+use Rattle.interpolation.specs.Definitions.{point, party, slot}
+use Rattle.interpolation.specs.Laws.{party-is}
 use Rattle.interpolation.specs.Rows.{listed, weightsOf, sumOf}
 use Rattle.records.specs.Parameters.{batch}
 use Rattle.encoding.specs.Bytes.{fours}
@@ -19,9 +20,11 @@ use Rattle.encoding.specs.Stores.{Put, put-none, put-next}
 use Rattle.protocol.specs.Transcript.{challengeAt}
 use Rattle.protocol.specs.Arrays.{challengeIn, scalars}
 use Rattle.protocol.specs.ArrayLaws.{scalars-interpolated}
+use Rattle.response.specs.Definitions.{transcript}
 use Rattle.run.specs.declared.Run.{Run}
-use Rattle.run.specs.Runs.{wellFormed, transcriptOf, qualOf}
+use Rattle.run.specs.Runs.{wellFormed, transcriptOf}
 use Rattle.run.specs.RunLaws.{formed-of}
+use Rattle.answers.specs.Answers.{unblamedOf}
 use Rattle.writers.specs.Writers.{combinedShare, responseFor}
 use Rattle.writers.specs.WriterLaws.{qual-is}
 use Rattle.writers.proofs.put_responses.Statement.{statement}
@@ -42,12 +45,12 @@ number-made : (n a qual : ℕ) (challenges : List Scalar) (weights : Row) (key :
 number-made n a qual challenges weights key shares u s v e m h = h ∙ rw (s, m, e, v)
 
 number-is : (r : Run) (j key : ℕ) (shares : List ℕ) {qual : ℕ} {points weights : Row} {x : Scalar}
-    → wellFormed r ≡ true → qual ≡ qualOf r → points ≡ listed (r .setup .a) (λ v. slot (v + 1)) → x ≡ party j → weights ≡ weightsOf points x
+    → wellFormed r ≡ true → qual ≡ unblamedOf r → points ≡ listed (r .setup .a) (λ v. slot (v + 1)) → x ≡ point j 0 → weights ≡ weightsOf points x
     → (u : ℕ) → number (r .setup .n) (r .setup .a) qual (r .challenges) weights key shares u ≡ responseFor r j key shares u
-unfolding responseFor challengeAt transcriptOf
+unfolding responseFor challengeAt transcriptOf transcript
 number-is r j key shares f q p x w u =
     ap₂ (λ (h : ℕ → Bool) (e : Scalar). plus (combinedShare (r .setup .n) h shares u) (times e (scalar key))) (ap has q ∙ qual-is r)
-    (rw (w, p, x) (scalars-interpolated (r .setup .a) (λ v. slot (v + 1)) (λ v. challengeIn (r .setup .a) (r .challenges) u (v + 1)) (party j) (omega (arith, formed-of r f .bounds))))
+    (rw (w, p, x, ← party-is j) (scalars-interpolated (r .setup .a) (λ v. slot (v + 1)) (λ v. challengeIn (r .setup .a) (r .challenges) u (v + 1)) (party j) (omega (arith, formed-of r f .bounds))))
 
 abbrev Inv-loop : tie.InvT-loop
 Inv-loop out₀ j key shares n a count qual challenges weights u₀ out u =
@@ -63,8 +66,8 @@ room c = omega (arith, c .batch .ensures, c .before .before .before .pre .2)
 batch-requires : tie.Need-batch-requires Inv-loop μ-loop
 batch-requires c κs = search needs
 
-qual-requires : tie.Need-qual-requires Inv-loop μ-loop
-qual-requires c κs = search needs
+unblamed-requires : tie.Need-unblamed-requires Inv-loop μ-loop
+unblamed-requires c κs = search needs
 
 slot-points-requires : tie.Need-slot-points-requires Inv-loop μ-loop
 slot-points-requires c κs = search needs
@@ -143,7 +146,7 @@ returns c =
     let end : l .u ≡ batch (a .run .setup .n) (a .run .setup .t) = omega (arith, b .batch .ensures) in
     (rw end at (l .inv .1 .1))
     ∙ ap (λ (f : ℕ → ℕ). sets (a .out .now) 4 (fours (batch (a .run .setup .n) (a .run .setup .t)) f))
-    (fun-ext (λ k. ap (λ (x : Scalar). x .0) (number-is (a .run) (a .j) (a .key) (a .shares .now) (begin .pre .0) (q .qual .ensures) (o .before .before .slot-points .ensures) (o .before .point .ensures) (o .weights .ensures) (k + 1))))
+    (fun-ext (λ k. ap (λ (x : Scalar). x .0) (number-is (a .run) (a .j) (a .key) (a .shares .now) (begin .pre .0) (q .unblamed .ensures) (o .before .before .slot-points .ensures) (o .before .point .ensures) (o .weights .ensures) (k + 1))))
 
 pub put-responses-spec : {M : Type 1} → statement M
 put-responses-spec =
@@ -152,7 +155,7 @@ put-responses-spec =
     Inv-loop
     μ-loop
     batch-requires
-    qual-requires
+    unblamed-requires
     slot-points-requires
     point-requires
     weights-requires

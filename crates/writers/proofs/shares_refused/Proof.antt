@@ -13,13 +13,14 @@ use Rattle.sets.specs.Masks.{has}
 use Rattle.field.specs.Definitions.{isScalar}
 use Rattle.records.specs.Tags.{responseLength}
 use Rattle.run.specs.declared.Run.{Run}
-use Rattle.run.specs.Runs.{qualOf, transcriptOf}
+use Rattle.run.specs.Runs.{transcriptOf}
+use Rattle.answers.specs.Answers.{unblamedOf}
 use Rattle.writers.specs.WriterLaws.{sharesRefused, qual-is}
 use Rattle.writers.proofs.shares_refused.Statement.{statement}
 use Rattle.writers.proofs.shares_refused.Tie as tie
 
 -- the code asks by a mask
-by-mask : (r : Run) (shares : List ℕ) {mask : ℕ} {b : Bool} → b ≡ allTo (r .setup .n) (λ i. not (has mask (i + 1)) || isScalar (getD shares i 0)) → mask ≡ qualOf r
+by-mask : (r : Run) (shares : List ℕ) {mask : ℕ} {b : Bool} → b ≡ allTo (r .setup .n) (λ i. not (has mask (i + 1)) || isScalar (getD shares i 0)) → mask ≡ unblamedOf r
     → b ≡ allTo (r .setup .n) (λ i. not (transcriptOf r .qual (i + 1)) || isScalar (getD shares i 0))
 by-mask r shares h e = h ∙ ap (λ (f : ℕ → Bool). allTo (r .setup .n) (λ i. not (f (i + 1)) || isScalar (getD shares i 0))) (ap has e ∙ qual-is r)
 
@@ -37,8 +38,8 @@ returns-2 : tie.Need-returns-2
 unfolding sharesRefused require
 returns-2 c = rw (eq-eqb _ _ (c .before .before .if1 .left), fails (c .before .accepts .ensures) (c .if2 .taken))
 
-qual-requires : tie.Need-qual-requires
-qual-requires c κs = search needs
+unblamed-requires : tie.Need-unblamed-requires
+unblamed-requires c κs = search needs
 
 shares-in-range-requires : tie.Need-shares-in-range-requires
 shares-in-range-requires c κs = search needs
@@ -48,7 +49,7 @@ unfolding sharesRefused require
 returns-3 c =
     let key = c .before .before .before in
     let a = key .before .before .before .before .args in
-    let fit = by-mask (a .run) (a .shares .now) (c .before .shares-in-range .ensures) (c .before .before .qual .ensures) in
+    let fit = by-mask (a .run) (a .shares .now) (c .before .shares-in-range .ensures) (c .before .before .unblamed .ensures) in
     rw (eq-eqb _ _ (key .before .before .if1 .left), holds (key .before .accepts .ensures) (key .if2 .left), fails fit (c .if3 .taken))
 
 response-length-requires : tie.Need-response-length-requires
@@ -62,7 +63,7 @@ settled c =
     let scalars = c .before in
     let key = scalars .before .before .before in
     let a = key .before .before .before .before .args in
-    let fit = by-mask (a .run) (a .shares .now) (scalars .before .shares-in-range .ensures) (scalars .before .before .qual .ensures) in
+    let fit = by-mask (a .run) (a .shares .now) (scalars .before .shares-in-range .ensures) (scalars .before .before .unblamed .ensures) in
     rw (eq-eqb _ _ (key .before .before .if1 .left), holds (key .before .accepts .ensures) (key .if2 .left), holds fit (scalars .if3 .left))
 
 returns-4 : tie.Need-returns-4
@@ -79,7 +80,7 @@ shares-refused-spec =
     returns
     accepts-requires
     returns-2
-    qual-requires
+    unblamed-requires
     shares-in-range-requires
     returns-3
     response-length-requires
