@@ -31,12 +31,13 @@ unblamedOf r = unblamed (r .setup .n) (r .complaints) (r .dealings .dealers)
 unfoldable pub unfixed : Sets
 unfixed = record { fixed = false; hold = 0; qual = 0; bad = 0 }
 
--- HOLD, QUAL and BAD are fixed from stage 3 on
+-- HOLD, QUAL and BAD of the kept complaint rows
+unfoldable pub fixed : Run → Sets
+fixed r = record { fixed = true; hold = r .complaints .holders; qual = unblamedOf r; bad = badOf r }
+
+-- they are fixed from stage 3 on
 unfoldable pub setsOf : Run → Sets
-setsOf r =
-    pick (leb 3 (stageOf r))
-    (record { fixed = true; hold = r .complaints .holders; qual = unblamedOf r; bad = badOf r })
-    unfixed
+setsOf r = pick (leb 3 (stageOf r)) (fixed r) unfixed
 
 -- ---- R and φ
 

@@ -7,7 +7,8 @@ use Rattle.records.specs.Parameters.{batch}
 use Rattle.text.specs.Lines.{line, setLine}
 use Rattle.protocol.specs.Transcript.{nonce}
 use Rattle.run.specs.declared.Run.{Run}
-use Rattle.run.specs.Runs.{stageOf, setsOf, transcriptOf, kept}
+use Rattle.run.specs.Runs.{stageOf, transcriptOf, kept}
+use Rattle.answers.specs.Answers.{setsOf}
 
 -- the words hold, qual, bad, sig, end
 abbrev pub holdWord : List ℕ

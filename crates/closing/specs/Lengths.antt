@@ -10,8 +10,9 @@ use Rattle.records.specs.Parameters.{batch}
 use Rattle.records.specs.Laws.{cells-max}
 use Rattle.text.specs.LineLaws.{line-max, setLine-max}
 use Rattle.run.specs.declared.Run.{Run}
-use Rattle.run.specs.Runs.{stageOf, setsOf}
+use Rattle.run.specs.Runs.{stageOf}
 use Rattle.run.specs.RunLaws.{formed-of, stage-live}
+use Rattle.answers.specs.Answers.{setsOf}
 use Rattle.closing.specs.Closing.{holdWord, qualWord, badWord, endWord, signatureLines, closing}
 use Rattle.closing.specs.SignatureRows.{signatures-max}
 

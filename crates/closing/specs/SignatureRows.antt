@@ -1,6 +1,5 @@
 -- The signature lines of one u, which a page has one after the other; and R(u,k) as the code finds it. Assumes nothing.
-use mathlib.Core.Path.{_≡_, sym, ap, ap₂, fun-ext, _∙_}
-use mathlib.Core.Bool.{Bool}
+use mathlib.Core.Path.{_≡_, sym, ap, ap₂, _∙_}
 use mathlib.Core.List.{List, [], _∷_, _++_, append-nil, append-assoc}
 use Prim.Native.Nat.{ℕ, zero, suc, _+_, _*_, _-_, _/_, _%_, _≤_, _<_}
 use native.Mathlib.Nat.{add-zero, add-suc, mul-comm}
@@ -9,22 +8,21 @@ use native.Mathlib.Omega.{arith}
 use lib.Arith.{digits-lt, digits-div, digits-mod}
 use lib.ListN.{length, getD, length-append}
 use Rattle.sets.specs.Masks.{has}
-use Rattle.sets.specs.MaskLaws.{has-minus}
 use Rattle.field.specs.declared.Scalar.{Scalar}
 use Rattle.field.specs.declared.Element.{Element}
 use Rattle.field.specs.Definitions.{scalar}
-use Rattle.interpolation.specs.Definitions.{slot, committedPoint, elementAt}
+use Rattle.interpolation.specs.Definitions.{slot, committedPoint}
 use Rattle.interpolation.specs.Rows.{listed, weightsOf, productOf}
 use Rattle.records.specs.Parameters.{quorum, batch}
-use Rattle.records.specs.Laws.{Bounds, quorum-max, cells-max}
+use Rattle.records.specs.Laws.{Bounds, cells-max}
 use Rattle.text.specs.Lines.{line}
 use Rattle.text.specs.LineLaws.{line-max}
 use Rattle.protocol.specs.Transcript.{nonce}
 use Rattle.protocol.specs.Arrays.{cell, commitmentIn, elements, combinedValue}
-use Rattle.protocol.specs.ArrayLaws.{values-interpolated}
-use Rattle.protocol.specs.Combined.{combined-values}
+use Rattle.response.specs.ResponseLaws.{combined-is}
 use Rattle.run.specs.declared.Run.{Run}
-use Rattle.run.specs.Runs.{transcriptOf, qualOf, kept}
+use Rattle.run.specs.Runs.{transcriptOf, kept}
+use Rattle.answers.specs.Answers.{unblamedOf}
 use Rattle.closing.specs.Closing.{sigWord, signatureLine, signatureLines}
 
 -- the slots 1 to k of one u
@@ -81,17 +79,13 @@ row-max r u (suc k) = omega (arith, length-append (rowLines r u k) (signatureLin
 
 -- ---- R and φ
 
--- R(u,k) from the committed values combined for u
+-- R(u,k) from the committed values of the dealers that nobody blames, combined for u
 pub nonce-is : (r : Run) (u k : ℕ) → Bounds (r .setup .n) (r .setup .t) (r .setup .a)
     → productOf (weightsOf (listed (quorum (r .setup .t) (r .setup .a)) (committedPoint (r .setup .a))) (slot k))
-    (elements (quorum (r .setup .t) (r .setup .a)) (combinedValue (r .setup .n) (has (qualOf r)) (commitmentIn (r .dealings .commitments)) u))
+    (elements (quorum (r .setup .t) (r .setup .a)) (combinedValue (r .setup .n) (has (unblamedOf r)) (commitmentIn (r .dealings .commitments)) u))
     ≡ nonce (transcriptOf r) u k
-unfolding nonce transcriptOf qualOf
-nonce-is r u k b =
-    values-interpolated (quorum (r .setup .t) (r .setup .a)) (r .setup .a) _ (slot k) (omega (arith, quorum-max b))
-    ∙ ap (λ (q : ℕ → Bool). elementAt (committedPoint (r .setup .a)) (quorum (r .setup .t) (r .setup .a)) (combinedValue (r .setup .n) q (commitmentIn (r .dealings .commitments)) u) (slot k))
-    (fun-ext (has-minus (r .dealings .dealers) (r .complaints .blamed)))
-    ∙ sym (combined-values (transcriptOf r) u (slot k))
+unfolding nonce transcriptOf unblamedOf
+nonce-is r u k b = combined-is (r .setup) (r .dealings) (r .complaints) (r .challenges) b (slot k) u
 
 -- φ(u,k) stands u outer, below the array's end
 pub kept-at : (r : Run) (u k : ℕ) → kept r u (k + 1) ≡ getD (r .signatures) ((u - 1) * r .setup .a + k) (scalar 0)

@@ -38,7 +38,7 @@ fn put_row(out: &mut [u8], at: usize, run: Run, powers: [Element; 1024], u: u8) 
 {
     let a = run.setup.a;
     let quorum = records::quorum(run.setup.t, a) as u8;
-    let values = protocol::combined_values(powers, run.qual(), run.setup.n, quorum);
+    let values = protocol::combined_values(powers, answers::unblamed(run), run.setup.n, quorum);
     let basis = interpolation::committed_points(a, quorum).basis();
     let first = (u - 1) as usize * a as usize;
     let mut next = at;
@@ -75,7 +75,7 @@ pub fn put_closing(out: &mut [u8], at: usize, run: Run) -> usize
 {
     let n = run.setup.n;
     let stage = run.stage_of();
-    let fixed = run.sets();
+    let fixed = answers::sets_of(run);
     let hold = text::put_set(out, at, b"hold", n, fixed.hold);
     let qual = text::put_set(out, hold, b"qual", n, fixed.qual);
     let mut next = text::put_set(out, qual, b"bad", n, fixed.bad);

@@ -5,25 +5,28 @@ use mathlib.Core.Path.{_≡_, refl, sym, ap, _∙_}
 use mathlib.Core.Bool.{Bool, true, false, _&&_}
 use mathlib.Core.Logic.{_⊎_, inl, inr, _≢_}
 use mathlib.Core.List.{List, [], _∷_}
-use Prim.Native.Nat.{ℕ, _-_, _≤_, _<_}
+use Prim.Native.Nat.{ℕ, _≤_, _<_}
 use native.Mathlib.Omega.{arith}
 use native.Mathlib.Decide.{ℕ-discrete, decLt}
 use lib.ListN.{length, take, drop}
 use lib.Seq.{take-length, drop-length}
 use lib.Dec.{eqb, leb}
-use borrow.Author.Tests.{eqb-true, le-leb, lt-leb, lt-ltb, eq-eqb, ne-eqb}
+use borrow.Author.Tests.{eqb-true, eqb-false, le-leb, lt-leb, lt-ltb, ne-eqb}
 use Rattle.lists.specs.Tests.{pick, pick-case, require-false, orNext}
 use Rattle.records.specs.Bytes.{byteAt}
 use Rattle.records.specs.Tags.{Tag, SU, DE, VE, CH, RE, unknown, code, tagOf, setupLength, dealingLength, complaintLength, challengesLength, responseLength}
 use Rattle.records.specs.Refusals.{setupRefusal, dealingRefusal, complaintRefusal, challengesRefusal, responseRefusal}
-use Rattle.run.specs.declared.Run.{Run}
-use Rattle.run.specs.Runs.{fresh, wellFormed, stageOf}
-use Rattle.run.specs.RunLaws.{stage-none, stage-past}
 use Rattle.dealing.specs.Definitions.{dealingNumber}
 use Rattle.complaint.specs.Definitions.{complaintNumber}
-use Rattle.run.specs.Steps.{challengesNumber, refused, taken, stepAt, stepOf, untaken}
 use Rattle.response.specs.Definitions.{responseNumber}
-use Rattle.run.specs.Refused.{refusal-keeps, untaken-refused}
+use Rattle.run.specs.declared.Run.{Run}
+use Rattle.run.specs.declared.Handler.{Handler}
+use Rattle.run.specs.declared.Handler.the-variants.{TakeSetup, TakeDealing, TakeComplaint, TakeChallenges, TakeResponse, Refuse}
+use Rattle.run.specs.Runs.{fresh, wellFormed, stageOf}
+use Rattle.run.specs.RunLaws.{stage-none, stage-past}
+use Rattle.run.specs.Steps.{takenAt, atStage, handlerAt, refused, answered, handled, stepOf}
+use Rattle.run.specs.StepLaws.{step-tag, at-stage, off-stage}
+use Rattle.run.specs.Refused.{refusal-keeps}
 use Rattle.log.specs.Cutting.{lengthAt, lengthOf, whole, recordsOf}
 use Rattle.log.specs.Turns.{nextLength, recordsFrom, none-yet, records-none, records-next}
 
@@ -91,38 +94,32 @@ known-long s d = go (decLt (length s) 2)
     go (yes l) = absurd (d (short-unknown s l))
     go (no n) = omega arith
 
-untaken-unknown : (r : Run) (s : List ℕ) → tagOf s ≡ unknown → untaken r s ≡ 1
-unfolding untaken
-untaken-unknown r s e = rw e
+unknown-refused : (r : Run) (s : List ℕ) → tagOf s ≡ unknown → stepOf r s ≡ refused r 1
+unfolding handlerAt handled
+unknown-refused r s e = step-tag unknown r s e
 
 pub unknown-last : (r : Run) (s : List ℕ) → 0 < length s → tagOf s ≡ unknown → (recordsFrom r s ≡ s ∷ []) × (stepOf r s ≡ refused r 1)
 unfolding lengthOf lengthAt
-unknown-last r s p e =
-    let number = untaken-unknown r s e in
-    (rest-last r s p (no-length r s (rw e)), untaken-refused r s (λ z. absurd (omega arith)) ∙ ap (refused r) number)
+unknown-last r s p e = (rest-last r s p (no-length r s (rw e)), unknown-refused r s e)
 
 -- ---- 11: the stage does not take the tag
 
--- a stage takes one tag: 0 SU, 1 DE, 2 VE, 3 CH, 4 RE
+-- the run's stage is the one that takes the record's tag
 abbrev pub takes : Run → List ℕ → Bool
-takes r s = eqb (stageOf r) (code (tagOf s) - 1)
+takes r s = eqb (stageOf r) (takenAt (tagOf s))
 
-known-code : (k : Tag) → k ≢ unknown → code k ≢ 0
-known-code SU d e = absurd (omega arith)
-known-code DE d e = absurd (omega arith)
-known-code VE d e = absurd (omega arith)
-known-code CH d e = absurd (omega arith)
-known-code RE d e = absurd (omega arith)
-known-code unknown d e = d refl
+other-stage : (k : Tag) (r : Run) → k ≢ unknown → stageOf r ≢ takenAt k → handlerAt k (stageOf r) ≡ Refuse 11
+unfolding handlerAt
+other-stage SU r d e = off-stage SU r TakeSetup e
+other-stage DE r d e = off-stage DE r TakeDealing e
+other-stage VE r d e = off-stage VE r TakeComplaint e
+other-stage CH r d e = off-stage CH r TakeChallenges e
+other-stage RE r d e = off-stage RE r TakeResponse e
+other-stage unknown r d e = absurd (d refl)
 
-untaken-stage : (r : Run) (s : List ℕ) → tagOf s ≢ unknown → takes r s ≡ false → untaken r s ≡ 11
-unfolding untaken
-untaken-stage r s d e = rw (ne-eqb (code (tagOf s)) 0 (known-code (tagOf s) d), e)
-
-stage-refused : (r : Run) (s : List ℕ) → tagOf s ≢ unknown → takes r s ≡ false → stepOf r s ≡ refused r 11
-stage-refused r s d e =
-    let number = untaken-stage r s d e in
-    untaken-refused r s (λ z. absurd (omega arith)) ∙ ap (refused r) number
+stage-refused : (r : Run) (s : List ℕ) → tagOf s ≢ unknown → stageOf r ≢ takenAt (tagOf s) → stepOf r s ≡ refused r 11
+unfolding handled
+stage-refused r s d e = step-tag (tagOf s) r s refl ∙ ap (λ (h : Handler). handled h r s) (other-stage (tagOf s) r d e)
 
 -- ---- no setup yet, and a known tag other than SU
 
@@ -136,19 +133,21 @@ stage-first r e = go (ℕ-discrete (r .stage) 0)
     go (yes z) = z
     go (no ne) = absurd (pick-case (λ (n : ℕ). n ≢ 0) (wellFormed r) (r .stage) 6 (λ w. ne) (λ w z. absurd (omega arith)) (sym (stage-past r ne) ∙ e))
 
-later-code : (k : Tag) → k ≢ unknown → k ≢ SU → 0 < code k - 1
-later-code SU u d = absurd (d refl)
-later-code DE u d = omega arith
-later-code VE u d = omega arith
-later-code CH u d = omega arith
-later-code RE u d = omega arith
-later-code unknown u d = absurd (u refl)
+-- no other tag is taken at stage 0
+later-stage : (k : Tag) → k ≢ SU → takenAt k ≢ 0
+unfolding takenAt
+later-stage SU d e = d refl
+later-stage DE d e = absurd (omega arith)
+later-stage VE d e = absurd (omega arith)
+later-stage CH d e = absurd (omega arith)
+later-stage RE d e = absurd (omega arith)
+later-stage unknown d e = absurd (omega arith)
 
 pub before-setup-last : (r : Run) (s : List ℕ) → BeforeSetup r s → (recordsFrom r s ≡ s ∷ []) × (stepOf r s ≡ refused r 11)
 unfolding lengthOf
 before-setup-last r s (e, u, d) = (
   rest-last r s (omega (arith, known-long s u)) (no-length r s (none-yet (tagOf s) r s d (stage-first r e))),
-  stage-refused r s u (ne-eqb (stageOf r) (code (tagOf s) - 1) (λ z. absurd (omega (arith, later-code (tagOf s) u d)))),
+  stage-refused r s u (λ z. later-stage (tagOf s) d (sym z ∙ e)),
 )
 
 -- ---- a cut record: fewer bytes are left than its tag's length, for SU also under 6
@@ -156,14 +155,14 @@ before-setup-last r s (e, u, d) = (
 abbrev pub Cut : Run → List ℕ → Type 0
 Cut r s = (tagOf s ≢ unknown) × ((length s < lengthOf r s) ⊎ ((tagOf s ≡ SU) × (length s < 6)))
 
--- the number of a step that the stage takes
-taken-number : (stage : ℕ) (r : Run) (k : ℕ) (next : Run) → stageOf r ≡ stage → k ≡ 2 → taken stage r k next ≡ refused r 2
-unfolding taken
-taken-number stage r k next e z = rw (eq-eqb (stageOf r) stage e, z)
+-- a record whose stage takes its tag, and whose handler finds 2
+found-short : (g : Tag) (h : Handler) (r : Run) (s : List ℕ) (k : ℕ) (next : Run) → stageOf r ≡ takenAt g → handled h r s ≡ answered r k next → k ≡ 2
+    → handled (atStage g (stageOf r) h) r s ≡ refused r 2
+found-short g h r s k next e a z = ap (λ (y : Handler). handled y r s) (at-stage g r h e) ∙ a ∙ rw z
 
-or-next : (k next : ℕ) → k ≡ 2 → orNext k next ≡ 2
+or-short : (k next : ℕ) → k ≡ 2 → orNext k next ≡ 2
 unfolding orNext
-or-next k next z = rw z
+or-short k next z = rw z
 
 past-none : (b : Bool) {m n : ℕ} → m < pick b 0 n → m ≢ n
 past-none true l e = absurd (omega arith)
@@ -183,31 +182,31 @@ setup-cut s l = require-false _ 2 _ (go (leb 6 (length s)) l)
         ne-eqb (length s) (setupLength (byteAt s 3)) (λ z. absurd (omega arith))
     go false l = refl
 
-cut-number : (k : Tag) (r : Run) (s : List ℕ) → length s < lengthAt k r s → stageOf r ≡ code k - 1 → stepAt k r s ≡ refused r 2
-unfolding stepAt lengthAt dealingNumber dealingRefusal complaintNumber complaintRefusal challengesNumber challengesRefusal responseNumber responseRefusal
-cut-number SU r s l e = taken-number 0 r _ _ e (setup-cut s l)
-cut-number DE r s l e = taken-number 1 r _ _ e (or-next _ _ (require-false _ 2 _ (ne-eqb _ _ (past-none (eqb (r .stage) 0) l))))
-cut-number VE r s l e = taken-number 2 r _ _ e (or-next _ _ (require-false _ 2 _ (ne-eqb _ _ (past-none (eqb (r .stage) 0) l))))
-cut-number CH r s l e = taken-number 3 r _ _ e (require-false _ 2 _ (ne-eqb _ _ (past-none (eqb (r .stage) 0) l)))
-cut-number RE r s l e = taken-number 4 r _ _ e (or-next _ _ (require-false _ 2 _ (ne-eqb _ _ (past-none (eqb (r .stage) 0) l))))
+cut-number : (k : Tag) (r : Run) (s : List ℕ) → length s < lengthAt k r s → stageOf r ≡ takenAt k → handled (handlerAt k (stageOf r)) r s ≡ refused r 2
+unfolding handlerAt handled lengthAt dealingNumber dealingRefusal complaintNumber complaintRefusal challengesRefusal responseNumber responseRefusal
+cut-number SU r s l e = found-short SU TakeSetup r s _ _ e refl (setup-cut s l)
+cut-number DE r s l e = found-short DE TakeDealing r s _ _ e refl (or-short _ _ (require-false _ 2 _ (ne-eqb _ _ (past-none (eqb (r .stage) 0) l))))
+cut-number VE r s l e = found-short VE TakeComplaint r s _ _ e refl (or-short _ _ (require-false _ 2 _ (ne-eqb _ _ (past-none (eqb (r .stage) 0) l))))
+cut-number CH r s l e = found-short CH TakeChallenges r s _ _ e refl (require-false _ 2 _ (ne-eqb _ _ (past-none (eqb (r .stage) 0) l)))
+cut-number RE r s l e = found-short RE TakeResponse r s _ _ e refl (or-short _ _ (require-false _ 2 _ (ne-eqb _ _ (past-none (eqb (r .stage) 0) l))))
 cut-number unknown r s l e = absurd (omega arith)
 
 -- the rest is one record: 11 where the stage does not take its tag, else 2
 pub cut-last : (r : Run) (s : List ℕ) → Cut r s → (recordsFrom r s ≡ s ∷ []) × (stepOf r s ≡ refused r (pick (takes r s) 2 11))
-unfolding lengthOf lengthAt stepOf stepAt
+unfolding lengthOf lengthAt handlerAt handled
 cut-last r s (u, c) = (rest-last r s (omega (arith, known-long s u)) (short c), go (takes r s) refl)
   where
     short : (length s < lengthOf r s) ⊎ ((tagOf s ≡ SU) × (length s < 6)) → whole r s ≡ false
     short (inl l) = too-short r s l
     short (inr (e, l)) = no-length r s (rw (e, lt-leb 6 (length s) l))
 
-    number : (length s < lengthOf r s) ⊎ ((tagOf s ≡ SU) × (length s < 6)) → stageOf r ≡ code (tagOf s) - 1 → stepOf r s ≡ refused r 2
-    number (inl l) e = cut-number (tagOf s) r s l e
-    number (inr (z, l)) e = ap (λ (k : Tag). stepAt k r s) z ∙ taken-number 0 r _ _ (e ∙ ap (λ (k : Tag). code k - 1) z) (setup-short s l)
+    number : (length s < lengthOf r s) ⊎ ((tagOf s ≡ SU) × (length s < 6)) → stageOf r ≡ takenAt (tagOf s) → stepOf r s ≡ refused r 2
+    number (inl l) e = step-tag (tagOf s) r s refl ∙ cut-number (tagOf s) r s l e
+    number (inr (z, l)) e = step-tag SU r s z ∙ found-short SU TakeSetup r s _ _ (e ∙ ap takenAt z) refl (setup-short s l)
 
     go : (b : Bool) → takes r s ≡ b → stepOf r s ≡ refused r (pick b 2 11)
     go true e = number c (eqb-true _ _ e)
-    go false e = stage-refused r s u e
+    go false e = stage-refused r s u (eqb-false _ _ e)
 
 -- ---- what is left of a log is one of these
 

@@ -1,33 +1,32 @@
 -- The response rows: what a number is tested against, and what the accepted numbers interpolate to. Assumes nothing.
-use mathlib.Core.Path.{_≡_, refl, sym, ap, ap₂, _∙_}
+use mathlib.Core.Path.{_≡_, ap, ap₂}
 use mathlib.Core.Bool.{Bool}
 use mathlib.Core.List.{List}
 use Prim.Native.Nat.{ℕ, _+_, _-_, _^_, _≤_, _<_}
 use native.Mathlib.Omega.{arith}
 use Rattle.lists.specs.Tests.{allTo, all-cong}
 use Rattle.sets.specs.Masks.{has}
-use Rattle.sets.specs.MaskLaws.{has-minus}
 use Rattle.field.specs.declared.Scalar.{Scalar}
 use Rattle.field.specs.declared.Element.{Element}
 use Rattle.field.specs.Definitions.{scalar, generator, product, raise, sameElement}
 use Rattle.interpolation.specs.declared.Row.{Row}
 use Rattle.interpolation.specs.Definitions.{party, slot, committedPoint}
-use Rattle.interpolation.specs.Rows.{listed, weightsOf, sumOf, productOf, elementAt-cong}
+use Rattle.interpolation.specs.Rows.{listed, weightsOf, sumOf, productOf}
 use Rattle.interpolation.specs.Turns.{first, first-weights}
 use Rattle.records.specs.Parameters.{quorum, batch}
 use Rattle.records.specs.Bytes.{word, sender}
-use Rattle.records.specs.Laws.{Bounds, quorum-max, key-max}
-use Rattle.protocol.specs.Transcript.{keyAt, combinedAt, challengeAt, responseAt, passes}
+use Rattle.records.specs.Laws.{Bounds, key-max}
+use Rattle.protocol.specs.Transcript.{keyAt, challengeAt, responseAt, passes}
 use Rattle.protocol.specs.Arrays.{commitmentIn, challengeIn, elements, scalars, combinedValue, memberPoints, memberNumbers}
-use Rattle.protocol.specs.ArrayLaws.{values-interpolated, challenges-interpolated, members-interpolated}
-use Rattle.protocol.specs.Combined.{combined-values, combinedValue-same}
+use Rattle.protocol.specs.ArrayLaws.{challenges-interpolated, members-interpolated}
 use Rattle.dealing.specs.declared.Setup.{Setup}
 use Rattle.dealing.specs.declared.Dealings.{Dealings}
 use Rattle.dealing.specs.Definitions.{keyIn}
 use Rattle.complaint.specs.declared.Complaints.{Complaints}
-use Rattle.complaint.specs.Definitions.{blamedBy, unblamed}
+use Rattle.complaint.specs.Definitions.{unblamed}
 use Rattle.response.specs.declared.Responses.{Responses}
 use Rattle.response.specs.Definitions.{transcript, phiOf}
+use Rattle.response.specs.ResponseLaws.{combined-is}
 
 -- ---- φ
 
@@ -52,18 +51,6 @@ module _ (setup : Setup) (list : List Element) (challenges : List Scalar) (qual 
   fits s i = sameElement (raise generator (scalar (word s 4 i))) (wanted (i + 1))
 
 module _ (setup : Setup) (d : Dealings) (c : Complaints) (challenges : List Scalar) (bounds : Bounds (setup .n) (setup .t) (setup .a)) (x : Scalar) where
-  -- C_u(x), from the committed values of the dealers that nobody blames, combined for u
-  pub combined-is : (u : ℕ)
-      → productOf (weightsOf (listed (quorum (setup .t) (setup .a)) (committedPoint (setup .a))) x)
-      (elements (quorum (setup .t) (setup .a)) (combinedValue (setup .n) (has (unblamed (setup .n) c (d .dealers))) (commitmentIn (d .commitments)) u))
-      ≡ combinedAt (transcript setup d c challenges) u x
-  unfolding transcript unblamed
-  combined-is u =
-      values-interpolated (quorum (setup .t) (setup .a)) (setup .a) _ x (omega (arith, quorum-max bounds))
-      ∙ elementAt-cong (committedPoint (setup .a)) (committedPoint (setup .a)) (quorum (setup .t) (setup .a)) _ _ x (λ v l. refl)
-      (λ v l. combinedValue-same (setup .n) _ _ _ u v (λ i. has-minus (d .dealers) (blamedBy (setup .n) c) i))
-      ∙ sym (combined-values (transcript setup d c challenges) u x)
-
   challenge-is : (u : ℕ)
       → sumOf (weightsOf (listed (setup .a) (λ v. slot (v + 1))) x) (scalars (setup .a) (λ v. challengeIn (setup .a) challenges u (v + 1)))
       ≡ challengeAt (transcript setup d c challenges) u x
@@ -75,7 +62,7 @@ module _ (setup : Setup) (d : Dealings) (c : Complaints) (challenges : List Scal
       (weightsOf (listed (setup .a) (λ v. slot (v + 1))) x) (weightsOf (listed (quorum (setup .t) (setup .a)) (committedPoint (setup .a))) x) u
       ≡ responseAt (transcript setup d c challenges) u x
   unfolding wanted responseAt transcript
-  wanted-is u = ap₂ (λ (v : Element) (e : Scalar). product v (raise (keyAt (setup .t) (setup .a) (keyIn setup) x) e)) (combined-is u) (challenge-is u)
+  wanted-is u = ap₂ (λ (v : Element) (e : Scalar). product v (raise (keyAt (setup .t) (setup .a) (keyIn setup) x) e)) (combined-is setup d c challenges bounds x u) (challenge-is u)
 
 module _ (setup : Setup) (d : Dealings) (c : Complaints) (challenges : List Scalar) (bounds : Bounds (setup .n) (setup .t) (setup .a)) (s : List ℕ) where
   -- the numbers of a record fit where they pass for its sender

@@ -1,7 +1,7 @@
 // Gives the worked log of document 01 and its cases A to L to the run, record by record, and prints each reply.
-use run::Nonce;
+use answers::Nonce;
+use answers::Signature;
 use run::Run;
-use run::Signature;
 
 fn print(x: u64) {
     io::print_decimal(1, x);
@@ -35,13 +35,13 @@ fn print_signature(answer: Signature) {
 
 // HOLD, QUAL and BAD as masks; R and phi of (1,1), (2,1) and (3,1), the last outside the batch; the stage.
 fn say(run: Run) {
-    let sets = run.sets();
+    let sets = answers::sets_of(run);
     print(sets.hold);
     print(sets.qual);
     print(sets.bad);
     for u in 1..4 {
-        print_nonce(run.nonce(u, 1));
-        print_signature(run.signature(u, 1));
+        print_nonce(answers::nonce_at(run, u, 1));
+        print_signature(answers::signature_at(run, u, 1));
     }
     print(run.stage_of() as u64);
     io::write_all(1, b"\n");

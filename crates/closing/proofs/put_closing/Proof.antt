@@ -22,8 +22,8 @@ use Rattle.closing.proofs.put_closing.Tie as tie
 stage-of-requires : tie.Need-stage-of-requires
 stage-of-requires c κs = search needs
 
-sets-requires : tie.Need-sets-requires
-sets-requires c κs = search needs
+sets-of-requires : tie.Need-sets-of-requires
+sets-of-requires c κs = search needs
 
 slice-aggregate-put-set : tie.Need-slice-aggregate-put-set
 slice-aggregate-put-set c = refl
@@ -145,7 +145,7 @@ returns c =
     let p1 = p2 .before .before .before .before .before in
     let f = p1 .before .before .before in
     let g = f .before in
-    rw (← f .sets .ensures, ← g .stage-of .ensures)
+    rw (← f .sets-of .ensures, ← g .stage-of .ensures)
     (wrote-append (p1 .put-set .ensures)
     (wrote-append (p2 .put-set2 .ensures)
     (wrote-append (p3 .put-set3 .ensures)
@@ -156,7 +156,7 @@ put-closing-spec =
     tie.close
     (tie.spec
     stage-of-requires
-    sets-requires
+    sets-of-requires
     slice-aggregate-put-set
     put-set-requires
     slice-aggregate-put-set-2

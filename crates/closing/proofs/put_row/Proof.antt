@@ -4,6 +4,7 @@ use Prim.Native.Nat.{_+_, _*_, _-_, _≤_, _<_}
 use native.Mathlib.Omega.{arith}
 use borrow.Author.Needs.{needs}
 use lib.ListN.{length}
+use Rattle.interpolation.specs.Laws.{slot-is}
 use Rattle.interpolation.specs.Bases.{weights-by}
 use Rattle.records.specs.Laws.{Bounds, quorum-max}
 use Rattle.text.specs.Texts.{Wrote, wrote-none, wrote-length, wrote-append}
@@ -30,8 +31,8 @@ quorum-requires c κs = search needs
 cast-quorum : tie.Need-cast-quorum Inv-loop μ-loop
 cast-quorum c = omega (arith, c .quorum .ensures, quorum-max (bounds (c .before .before)))
 
-qual-requires : tie.Need-qual-requires Inv-loop μ-loop
-qual-requires c κs = search needs
+unblamed-requires : tie.Need-unblamed-requires Inv-loop μ-loop
+unblamed-requires c κs = search needs
 
 combined-values-requires : tie.Need-combined-values-requires Inv-loop μ-loop
 combined-values-requires c κs = search needs
@@ -138,7 +139,7 @@ found c =
     let few = quorum-max (bounds s) in
     let values = combined-powers (r .setup .n) _ (r .dealings .commitments) (s .args .u) _ (omega (arith, few, q .before .quorum .ensures)) refl (s .pre .3) (v .combined-values .ensures) in
     c .product .ensures
-    ∙ rw (w .weights .ensures, w .before .point .ensures, b .basis .ensures, weights-by, b .before .committed-points .ensures, values, q .qual .ensures, q .before .quorum .ensures)
+    ∙ rw (w .weights .ensures, w .before .point .ensures, b .basis .ensures, weights-by, b .before .committed-points .ensures, values, q .unblamed .ensures, q .before .quorum .ensures, ← slot-is)
     (nonce-is r (s .args .u) (l .loop .k + 1) (bounds s))
 
 loop-again : tie.Need-loop-again Inv-loop μ-loop
@@ -169,7 +170,7 @@ put-row-spec =
     μ-loop
     quorum-requires
     cast-quorum
-    qual-requires
+    unblamed-requires
     combined-values-requires
     committed-points-requires
     basis-requires

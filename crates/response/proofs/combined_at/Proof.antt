@@ -10,7 +10,7 @@ use Rattle.records.specs.Laws.{bounds-of, quorum-max}
 use Rattle.protocol.specs.Arrays.{commitmentIn, elements, combinedValue}
 use Rattle.protocol.specs.Powers.{combined-powers}
 use borrow.Author.Needs.{needs}
-use Rattle.response.proofs.Rows.{combined-is}
+use Rattle.response.specs.ResponseLaws.{combined-is}
 use Rattle.response.proofs.combined_at.Statement.{statement}
 use Rattle.response.proofs.combined_at.Tie as tie
 

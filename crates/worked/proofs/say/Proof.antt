@@ -10,8 +10,8 @@ Inv-loop run u₀ t4 u = u ≤ 4
 abbrev μ-loop : tie.MeasureT-loop
 μ-loop run u₀ t4 u = 4 - u
 
-sets-requires : tie.Need-sets-requires Inv-loop μ-loop
-sets-requires c κs = search needs
+sets-of-requires : tie.Need-sets-of-requires Inv-loop μ-loop
+sets-of-requires c κs = search needs
 
 print-requires : tie.Need-print-requires Inv-loop μ-loop
 print-requires c κs = search needs
@@ -25,14 +25,14 @@ print-requires-3 c κs = search needs
 loop-holds : tie.Need-loop-holds Inv-loop μ-loop
 loop-holds c = search needs
 
-nonce-requires : tie.Need-nonce-requires Inv-loop μ-loop
-nonce-requires c κs = search needs
+nonce-at-requires : tie.Need-nonce-at-requires Inv-loop μ-loop
+nonce-at-requires c κs = search needs
 
 print-nonce-requires : tie.Need-print-nonce-requires Inv-loop μ-loop
 print-nonce-requires c κs = search needs
 
-signature-requires : tie.Need-signature-requires Inv-loop μ-loop
-signature-requires c κs = search needs
+signature-at-requires : tie.Need-signature-at-requires Inv-loop μ-loop
+signature-at-requires c κs = search needs
 
 print-signature-requires : tie.Need-print-signature-requires Inv-loop μ-loop
 print-signature-requires c κs = search needs
@@ -70,14 +70,14 @@ say-spec =
     (tie.spec
     Inv-loop
     μ-loop
-    sets-requires
+    sets-of-requires
     print-requires
     print-requires-2
     print-requires-3
     loop-holds
-    nonce-requires
+    nonce-at-requires
     print-nonce-requires
-    signature-requires
+    signature-at-requires
     print-signature-requires
     add-u
     loop-less
