@@ -28,16 +28,16 @@ unfoldable pub unblamedOf : Run → ℕ
 unblamedOf r = unblamed (r .setup .n) (r .complaints) (r .dealings .dealers)
 
 -- no set is fixed yet
-unfoldable pub unfixed : Sets
-unfixed = record { fixed = false; hold = 0; qual = 0; bad = 0 }
+unfoldable pub noSets : Sets
+noSets = record { fixed = false; hold = 0; qual = 0; bad = 0 }
 
 -- HOLD, QUAL and BAD of the kept complaint rows
-unfoldable pub fixed : Run → Sets
-fixed r = record { fixed = true; hold = r .complaints .holders; qual = unblamedOf r; bad = badOf r }
+unfoldable pub keptSets : Run → Sets
+keptSets r = record { fixed = true; hold = r .complaints .holders; qual = unblamedOf r; bad = badOf r }
 
 -- they are fixed from stage 3 on
 unfoldable pub setsOf : Run → Sets
-setsOf r = pick (leb 3 (stageOf r)) (fixed r) unfixed
+setsOf r = pick (leb 3 (stageOf r)) (keptSets r) noSets
 
 -- ---- R and φ
 

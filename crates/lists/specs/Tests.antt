@@ -42,6 +42,11 @@ pub pick-map : {A B : Type 0} (f : A → B) (b : Bool) (x y : A) → f (pick b x
 pick-map f true x y = refl
 pick-map f false x y = refl
 
+-- the first may be put otherwise where the test passes
+pub pick-same : {A : Type 0} (b : Bool) {x y : A} (z : A) → (b ≡ true → x ≡ y) → pick b x z ≡ pick b y z
+pick-same true z h = h refl
+pick-same false z h = refl
+
 -- ---- truth values
 
 pub no-both : {b : Bool} → b ≡ true → b ≡ false → ⊥

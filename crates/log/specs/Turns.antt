@@ -10,7 +10,7 @@ use lib.ListN.{length, take, drop, length-drop}
 use lib.Seq.{take-length, drop-length}
 use lib.Dec.{eqb, leb}
 use borrow.Author.Tests.{leb-true, eq-eqb, ne-eqb}
-use Rattle.lists.specs.Tests.{pick, pick-case, and-left, and-right}
+use Rattle.lists.specs.Tests.{pick, pick-case, and-left, and-right, pick-same}
 use Rattle.records.specs.Tags.{Tag, SU, DE, VE, CH, RE, unknown}
 use Rattle.text.specs.Lines.{line}
 use Rattle.run.specs.declared.Run.{Run}
@@ -69,10 +69,6 @@ unfolding nextLength
 next-max r s = pick-case (λ (n : ℕ). n ≤ length s) (whole r s) (lengthOf r s) (length s) (λ e. whole-max r s e) (λ e. omega arith)
 
 -- ---- records, turn by turn
-
-pick-same : {A : Type 0} (b : Bool) {x y : A} (z : A) → (b ≡ true → x ≡ y) → pick b x z ≡ pick b y z
-pick-same true z h = h refl
-pick-same false z h = refl
 
 -- the bound of the records does not matter where it is large enough
 pub cut-more : (f g : ℕ) (r : Run) (s : List ℕ) → length s ≤ f → length s ≤ g → cutFrom f r s ≡ cutFrom g r s

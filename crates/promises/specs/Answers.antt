@@ -13,29 +13,18 @@ use Rattle.field.specs.declared.Scalar.{Scalar}
 use Rattle.field.specs.declared.Element.{Element}
 use Rattle.protocol.specs.Transcript.{nonce}
 use Rattle.protocol.specs.Alike.{nonce-same}
-use Rattle.run.specs.declared.Nonce.{Nonce}
-use Rattle.run.specs.declared.Nonce.the-variants as N
-use Rattle.run.specs.declared.Signature.{Signature}
-use Rattle.run.specs.declared.Signature.the-variants as S
-use Rattle.run.specs.Runs.{stageOf, transcriptOf, qualOf, setsOf, kept}
+use Rattle.answers.specs.declared.Nonce.the-variants as N
+use Rattle.answers.specs.declared.Signature.the-variants as S
+use Rattle.response.specs.Definitions.{transcript}
+use Rattle.run.specs.Runs.{stageOf, transcriptOf, kept}
+use Rattle.answers.specs.Answers.{badOf, unblamedOf, noSets, keptSets, setsOf, inBatch, nonceOf, signatureOf, nonceValues, signatureValues}
 use Rattle.run.specs.Steps.{after}
-use Rattle.run.specs.Answers.{inBatch, nonceOf, signatureOf}
 use Rattle.promises.specs.Lists.{accepted, hold, bad, qualified, read, phi, stageBy}
 use Rattle.promises.specs.Places.{isPlace, place-of}
-use Rattle.promises.specs.Invariant.{badMask}
-use Rattle.promises.specs.Made.{made-stage, made-live, made-hold, made-bad, made-qual, made-alike}
+use Rattle.complaint.specs.Definitions.{blamedBy, unblamed}
+use Rattle.promises.specs.Made.{made-stage, made-hold, made-bad, made-qual, made-alike}
 use Rattle.promises.specs.Stages.{stage-by}
 use Rattle.promises.specs.Finished.{kept-is}
-
--- ---- the values of an answer: one, or none
-
-unfoldable pub nonceValues : Nonce → List Element
-nonceValues (N.Is v) = v ∷ []
-nonceValues N.None = []
-
-unfoldable pub responseValues : Signature → List Scalar
-responseValues (S.Is x) = x ∷ []
-responseValues S.None = []
 
 -- ---- what is claimed
 
@@ -70,7 +59,7 @@ pub record Answers (l : List (List ℕ)) : Type 0 where
   pub sets : 3 ≤ stageBy (accepted l) → Fixed l
   pub no-sets : stageBy (accepted l) < 3 → Unfixed l
   pub nonces : (u k : ℕ) → nonceValues (nonceOf (after l) u k) ≡ nonceBy (accepted l) u k
-  pub signatures : (u k : ℕ) → responseValues (signatureOf (after l) u k) ≡ signatureBy (accepted l) u k
+  pub signatures : (u k : ℕ) → signatureValues (signatureOf (after l) u k) ≡ signatureBy (accepted l) u k
 
 -- ---- the proof
 
@@ -86,36 +75,34 @@ module _ (l : List (List ℕ)) where
 
   -- ---- the sets
 
-  sets-are : 3 ≤ stageBy (accepted l)
-      → setsOf (after l) ≡ record { fixed = true; hold = after l .complaints .holders; qual = qualOf (after l); bad = badMask (after l .setup .n) (after l .complaints) }
+  sets-are : 3 ≤ stageBy (accepted l) → setsOf (after l) ≡ keptSets (after l)
   unfolding setsOf
-  sets-are m =
-      let p : 0 < after l .stage = omega (arith, stage-by l) in
-      rw (stage-is, le-leb 3 (stageBy (accepted l)) m, le-leb (stageBy (accepted l)) 6 (omega (arith, stage-by l, made-live l p .stage .stage-max)))
+  sets-are m = rw (stage-is, le-leb 3 (stageBy (accepted l)) m)
 
   sets-fixed : 3 ≤ stageBy (accepted l) → Fixed l
-  unfolding qualOf
+  unfolding keptSets badOf unblamedOf unblamed
   sets-fixed m =
       let p : 0 < after l .stage = omega (arith, stage-by l) in
       let e = sets-are m in
       record {
         fixed = rw e;
         hold-is = λ i. rw e (made-hold l p i);
-        qual-is = λ i. rw e (has-minus (after l .dealings .dealers) (badMask (after l .setup .n) (after l .complaints)) i ∙ made-qual l p i);
+        qual-is = λ i. rw e (has-minus (after l .dealings .dealers) (blamedBy (after l .setup .n) (after l .complaints)) i ∙ made-qual l p i);
         bad-is = λ i. rw e (made-bad l p i);
       }
 
-  sets-none : stageBy (accepted l) < 3 → setsOf (after l) ≡ record { fixed = false; hold = 0; qual = 0; bad = 0 }
+  sets-none : stageBy (accepted l) < 3 → setsOf (after l) ≡ noSets
   unfolding setsOf
   sets-none m = rw (stage-is, lt-leb 3 (stageBy (accepted l)) m)
 
   sets-unfixed : stageBy (accepted l) < 3 → Unfixed l
+  unfolding noSets
   sets-unfixed m = let e = sets-none m in record { unfixed = rw e; hold-none = rw e; qual-none = rw e; bad-none = rw e }
 
   -- ---- R and φ
 
   place-same : 0 < after l .stage → (u k : ℕ) → inBatch (after l) u k ≡ isPlace (read (accepted l)) u k
-  unfolding inBatch isPlace transcriptOf
+  unfolding inBatch isPlace transcriptOf transcript
   place-same p u k = let h = made-alike l p in rw (h .n-same, h .t-same, h .a-same)
 
   nonce-is : (u k : ℕ) → nonceValues (nonceOf (after l) u k) ≡ nonceBy (accepted l) u k
@@ -130,10 +117,10 @@ module _ (l : List (List ℕ)) where
       live : (leb 3 (stageBy (accepted l)) && leb (stageBy (accepted l)) 5) ≡ true → 0 < after l .stage
       live e = omega (arith, stage-by l, leb-true 3 (stageBy (accepted l)) (and-left _ _ e))
 
-  signature-is : (u k : ℕ) → responseValues (signatureOf (after l) u k) ≡ signatureBy (accepted l) u k
-  unfolding signatureOf responseValues signatureBy
+  signature-is : (u k : ℕ) → signatureValues (signatureOf (after l) u k) ≡ signatureBy (accepted l) u k
+  unfolding signatureOf signatureValues signatureBy
   signature-is u k =
-      pick-map responseValues (eqb (stageOf (after l)) 5 && inBatch (after l) u k) (S.Is (kept (after l) u k)) S.None
+      pick-map signatureValues (eqb (stageOf (after l)) 5 && inBatch (after l) u k) (S.Is (kept (after l) u k)) S.None
       ∙ ap (λ (g : ℕ). pick (eqb g 5 && inBatch (after l) u k) (kept (after l) u k ∷ []) []) stage-is
       ∙ choice-same (eqb (stageBy (accepted l)) 5) _ _ _ _ [] (λ e. place-same (omega (arith, done e)) u k)
       (λ e d. ap (λ (x : Scalar). x ∷ []) (kept-is l (done e) u k (place-of (read (accepted l)) u k d)))

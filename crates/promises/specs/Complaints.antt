@@ -22,8 +22,12 @@ use Rattle.run.specs.declared.Run.{Run}
 use Rattle.run.specs.Runs.{stageOf, transcriptOf}
 use Rattle.dealing.specs.Definitions.{dealingNumber, wrongShares, mayBlame}
 use Rattle.complaint.specs.Definitions.{complaintNumber}
-use Rattle.run.specs.Steps.{challengesNumber, refused, taken, stepAt, stepOf, after}
-use Rattle.response.specs.Definitions.{responseNumber}
+use Rattle.run.specs.Steps.{afterSetup, afterDealing, afterComplaint, afterChallenges, afterResponse, takenAt, atStage, handlerAt, handled, stepOf, after}
+use Rattle.run.specs.StepLaws.{step-taken, stage-case, answered-number}
+use Rattle.run.specs.declared.Reply.{Reply}
+use Rattle.run.specs.declared.Handler.{Handler}
+use Rattle.run.specs.declared.Handler.the-variants.{TakeSetup, TakeDealing, TakeComplaint, TakeChallenges, TakeResponse}
+use Rattle.response.specs.Definitions.{transcript, responseNumber}
 use Rattle.writers.specs.Writers.{complaintBytes}
 use Rattle.writers.specs.Accepted.{complaint-mask}
 use Rattle.promises.specs.Lists.{accepted, ofTag, sentBy, recordOf, dealer, hold, read, stageBy}
@@ -64,7 +68,7 @@ module _ (l : List (List ℕ)) (p : 0 < after l .stage) where
   dealer-is i = made-live l p .dealings .senders .mask-is i
 
   wrong-shares : (i j : ℕ) → 0 < i → 0 < j → j ≤ after l .setup .n → dealer (accepted l) i ≡ true → has (getD (after l .dealings .wrong) (i - 1) 0) j ≡ not (shareValid (accepted l) i j)
-  unfolding wrongShares dealer read transcriptOf shareValid
+  unfolding wrongShares dealer read transcriptOf transcript shareValid
   wrong-shares i j q k m e =
       let s = recordOf i (ofTag DE (accepted l)) in
       ap (λ (w : ℕ). has w j) (made-live l p .dealings .wrong-is i q e)
@@ -118,32 +122,26 @@ or-other k next p q e = go (eqb k 0) e
     go false e = p e
 
 -- the number of a record at its stage is 13 where its handler says so
-taken-13 : (g : ℕ) (r : Run) (k : ℕ) (next : Run) → taken g r k next .number ≡ 13 → (stageOf r ≡ g) × (k ≡ 13)
-unfolding taken
-taken-13 g r k next e = go (eqb (stageOf r) g) refl (eqb k 0) refl e
-  where
-    go : (b : Bool) → eqb (stageOf r) g ≡ b → (c : Bool) → eqb k 0 ≡ c → pick b (pick c (record { run = next; number = 0 }) (refused r k)) (refused r 11) .number ≡ 13 → (stageOf r ≡ g) × (k ≡ 13)
-    go true x true y e = absurd (omega arith)
-    go true x false y e = (eqb-true (stageOf r) g x, e)
-    go false x c y e = absurd (omega arith)
+at-13 : (g : Tag) (a : Handler) (r : Run) (s : List ℕ) → handled (atStage g (stageOf r) a) r s .number ≡ 13 → (stageOf r ≡ takenAt g) × (handled a r s .number ≡ 13)
+at-13 g a r s = stage-case (λ (y : Reply). y .number ≡ 13 → (stageOf r ≡ takenAt g) × (handled a r s .number ≡ 13)) g a r s (λ e n. (e, n)) (λ e n. absurd (omega arith))
 
 setup-other : (s : List ℕ) → setupRefusal s ≢ 13
 unfolding setupRefusal
 setup-other s = other _ 2 _ refl (other _ 3 _ refl (other _ 4 _ refl (other _ 7 0 refl (eqb-false 0 13 refl))))
 
 module _ (r : Run) (s : List ℕ) where
-  dealing-other : dealingNumber r s ≢ 13
+  dealing-other : dealingNumber (r .setup) (r .dealings) s ≢ 13
   unfolding dealingNumber dealingRefusal
   dealing-other =
       or-other _ _
       (other _ 2 _ refl (other _ 3 _ refl (other _ 5 _ refl (other _ 7 _ refl (other _ 6 0 refl (eqb-false 0 13 refl))))))
       (other _ 12 0 refl (eqb-false 0 13 refl))
 
-  challenges-other : challengesNumber r s ≢ 13
-  unfolding challengesNumber challengesRefusal
+  challenges-other : challengesRefusal (r .setup .n) (r .setup .t) (r .setup .a) s ≢ 13
+  unfolding challengesRefusal
   challenges-other = other _ 2 _ refl (other _ 3 _ refl (other _ 6 0 refl (eqb-false 0 13 refl)))
 
-  response-other : responseNumber r s ≢ 13
+  response-other : responseNumber (r .setup) (r .dealings) (r .complaints) (r .challenges) (r .responses) s ≢ 13
   unfolding responseNumber responseRefusal
   response-other =
       or-other _ _
@@ -158,7 +156,7 @@ module _ (r : Run) (s : List ℕ) where
   abbrev blamesRightly : Bool
   blamesRightly = allTo (r .setup .n) (λ i. not (has (numberAt s 4) (i + 1)) || mayBlame (r .dealings) (sender s) (i + 1))
 
-  complaint-13 : complaintNumber r s ≡ 13 → (complaintRefusal (r .setup .n) s ≡ 0) × (has (r .complaints .holders) (sender s) ≡ false) × (blamesRightly ≡ false)
+  complaint-13 : complaintNumber (r .setup) (r .dealings) (r .complaints) s ≡ 13 → (complaintRefusal (r .setup .n) s ≡ 0) × (has (r .complaints .holders) (sender s) ≡ false) × (blamesRightly ≡ false)
   unfolding complaintNumber orNext require
   complaint-13 e = go (complaintRefusal (r .setup .n) s) refl (eqb (complaintRefusal (r .setup .n) s) 0) refl (has (r .complaints .holders) (sender s)) refl blamesRightly refl e
     where
@@ -169,7 +167,7 @@ module _ (r : Run) (s : List ℕ) where
       go k x true y false z false w e = (x ∙ eqb-true k 0 y, z, w)
       go k x false y c z d w e = absurd (complaint-other (r .setup .n) (x ∙ e))
 
-  complaint-is : complaintRefusal (r .setup .n) s ≡ 0 → has (r .complaints .holders) (sender s) ≡ false → blamesRightly ≡ false → complaintNumber r s ≡ 13
+  complaint-is : complaintRefusal (r .setup .n) s ≡ 0 → has (r .complaints .holders) (sender s) ≡ false → blamesRightly ≡ false → complaintNumber (r .setup) (r .dealings) (r .complaints) s ≡ 13
   unfolding complaintNumber orNext require
   complaint-is x z w = rw (x, z, w)
 
@@ -190,8 +188,8 @@ unfounded-of true c e = (refl, e)
 unfounded-of false c e = absurd (no-both refl e)
 
 module _ (l : List (List ℕ)) (s : List ℕ) where
-  false-of : tagOf s ≡ VE → stageOf (after l) ≡ 2 → complaintNumber (after l) s ≡ 13 → FalseComplaint l s
-  unfolding transcriptOf
+  false-of : tagOf s ≡ VE → stageOf (after l) ≡ 2 → complaintNumber (after l .setup) (after l .dealings) (after l .complaints) s ≡ 13 → FalseComplaint l s
+  unfolding transcriptOf transcript
   false-of tag stage e =
       let at : stageBy (accepted l) ≡ 2 = sym (answers l .stage) ∙ stage in
       let p : 0 < after l .stage = omega (arith, stage-by l) in
@@ -210,7 +208,7 @@ module _ (l : List (List ℕ)) (s : List ℕ) where
       }
 
   false-refused : FalseComplaint l s → stepOf (after l) s .number ≡ 13
-  unfolding stepOf stepAt taken transcriptOf
+  unfolding takenAt atStage handlerAt handled transcriptOf transcript
   false-refused h =
       let p : 0 < after l .stage = omega (arith, stage-by l, h .stage) in
       let formed : complaintRefusal (after l .setup .n) s ≡ 0 = rw (made-alike l p .n-same) (h .formed) in
@@ -219,17 +217,24 @@ module _ (l : List (List ℕ)) (s : List ℕ) where
       let pos : 0 < i = has-pos (numberAt s 4) i (h .blames) in
       let back : i - 1 + 1 ≡ i = omega arith in
       let below : i ≤ after l .setup .n = has-le (numberAt s 4) (after l .setup .n) i (passed .mask) (h .blames) in
-      let e : complaintNumber (after l) s ≡ 13 = complaint-is (after l) s formed (made-hold l p (sender s) ∙ h .new)
+      let e : complaintNumber (after l .setup) (after l .dealings) (after l .complaints) s ≡ 13 = complaint-is (after l) s formed (made-hold l p (sender s) ∙ h .new)
       (one-fails _ (i - 1) (after l .setup .n) (omega arith) (rw (back, h .blames, wronged-is l p (sender s) i (passed .sender-pos) (passed .sender-max), h .unfounded))) in
-      rw (h .tag, answers l .stage, h .stage, e)
+      ap (λ (y : Reply). y .number) (step-taken VE (after l) s (h .tag) (answers l .stage ∙ h .stage)) ∙ answered-number (after l) _ (afterComplaint (after l) s) ∙ e
 
-  number-13 : (k : Tag) → tagOf s ≡ k → stepAt k (after l) s .number ≡ 13 → FalseComplaint l s
-  unfolding stepAt
-  number-13 SU m e = absurd (setup-other s (taken-13 0 (after l) _ _ e .1))
-  number-13 DE m e = absurd (dealing-other (after l) s (taken-13 1 (after l) _ _ e .1))
-  number-13 VE m e = let c = taken-13 2 (after l) _ _ e in false-of m (c .0) (c .1)
-  number-13 CH m e = absurd (challenges-other (after l) s (taken-13 3 (after l) _ _ e .1))
-  number-13 RE m e = absurd (response-other (after l) s (taken-13 4 (after l) _ _ e .1))
+  number-13 : (k : Tag) → tagOf s ≡ k → handled (handlerAt k (stageOf (after l))) (after l) s .number ≡ 13 → FalseComplaint l s
+  unfolding handlerAt handled takenAt
+  number-13 SU m e = absurd (setup-other s (sym (answered-number (after l) (setupRefusal s) (afterSetup s)) ∙ at-13 SU TakeSetup (after l) s e .1))
+  number-13 DE m e =
+      absurd (dealing-other (after l) s (sym (answered-number (after l) (dealingNumber (after l .setup) (after l .dealings) s) (afterDealing (after l) s)) ∙ at-13 DE TakeDealing (after l) s e .1))
+  number-13 VE m e =
+      let c = at-13 VE TakeComplaint (after l) s e in
+      false-of m (c .0) (sym (answered-number (after l) (complaintNumber (after l .setup) (after l .dealings) (after l .complaints) s) (afterComplaint (after l) s)) ∙ c .1)
+  number-13 CH m e =
+      absurd (challenges-other (after l) s (sym (answered-number (after l) (challengesRefusal (after l .setup .n) (after l .setup .t) (after l .setup .a) s) (afterChallenges (after l) s))
+      ∙ at-13 CH TakeChallenges (after l) s e .1))
+  number-13 RE m e =
+      absurd (response-other (after l) s (sym (answered-number (after l) (responseNumber (after l .setup) (after l .dealings) (after l .complaints) (after l .challenges) (after l .responses) s) (afterResponse (after l) s))
+      ∙ at-13 RE TakeResponse (after l) s e .1))
   number-13 unknown m e = absurd (omega arith)
 
 -- After every list, a record is refused with 13 exactly where it is a false complaint.
@@ -242,7 +247,7 @@ refused-13 l s = (number-13 l s (tagOf s) refl, false-refused l s)
 -- At stage 2, the complaint row that the writer makes for j blames exactly the accepted dealers whose share for j is not valid.
 pub written-blames : (l : List (List ℕ)) → stageBy (accepted l) ≡ 2 → (j : ℕ) → 0 < j → j ≤ read (accepted l) .n
     → (i : ℕ) → has (numberAt (complaintBytes (after l) j) 4) i ≡ wronged (accepted l) j i
-unfolding transcriptOf
+unfolding transcriptOf transcript
 written-blames l e j q m i =
     let p : 0 < after l .stage = omega (arith, stage-by l) in
     let k : j ≤ after l .setup .n = omega (arith, made-alike l p .n-same) in

@@ -13,7 +13,7 @@ use Rattle.sets.specs.Masks.{has}
 use Rattle.sets.specs.MemberLaws.{Member, members-all, members-distinct}
 use Rattle.field.specs.declared.Element.{Element}
 use Rattle.field.specs.Definitions.{scalar, element, generator, IsScalar, product, raise}
-use Rattle.field.specs.ElementLaws.{generator-unique}
+use Rattle.field.specs.ElementLaws.{generator-unique, same-is}
 use Rattle.interpolation.specs.Definitions.{party}
 use Rattle.interpolation.specs.Laws.{scalarAt-range}
 use Rattle.records.specs.Parameters.{quorum, batch}
@@ -24,8 +24,8 @@ use Rattle.protocol.specs.Alike.{Alike, nonce-same}
 use Rattle.protocol.specs.Signature.{signature}
 use Rattle.run.specs.declared.Run.{Run}
 use Rattle.protocol.specs.Arrays.{base, cell}
+use Rattle.response.specs.Definitions.{transcript, respondersOf, phiOf}
 use Rattle.run.specs.Runs.{transcriptOf, kept}
-use Rattle.response.specs.Definitions.{respondersOf, phiOf}
 use Rattle.run.specs.Steps.{after}
 use Rattle.promises.specs.Lists.{accepted, ofTag, sentBy, recordOf, hold, read, phi}
 use Rattle.promises.specs.ListLaws.{recordOf-all, recordOf-sender}
@@ -49,7 +49,7 @@ row-passes : (w : Transcript) (holders : ℕ) (s : List ℕ) → Row w holders s
 unfolding passes
 row-passes w holders s h u p l =
     let back : u - 1 + 1 ≡ u = omega arith in
-    ap element (eqb-true _ _ (h .passing (u - 1) (omega arith))) ∙ ap (λ (x : ℕ). responseAt w x (party (sender s))) back
+    same-is _ _ (h .passing (u - 1) (omega arith)) ∙ ap (λ (x : ℕ). responseAt w x (party (sender s))) back
 
 module _ (l : List (List ℕ)) (e : after l .stage ≡ 5) where
   abbrev r : Run
@@ -72,7 +72,7 @@ module _ (l : List (List ℕ)) (e : after l .stage ≡ 5) where
 
   -- need rows were accepted, of different members of HOLD
   pub rows-number : length rows ≡ quorum (read (accepted l) .t) (read (accepted l) .a)
-  unfolding transcriptOf
+  unfolding transcriptOf transcript
   rows-number = sym (live .responses .senders .number-is) ∙ live .stage .done e .full ∙ ap₂ quorum (alike .t-same) (alike .a-same)
 
   pub rows-differ : Distinct sender rows
@@ -87,7 +87,7 @@ module _ (l : List (List ℕ)) (e : after l .stage ≡ 5) where
 
     -- the rows of the list
     list-verifies : raise generator (phi (accepted l) u k) ≡ signatureOf w u k
-    unfolding phi transcriptOf
+    unfolding phi transcriptOf transcript
     list-verifies =
         signature w u (made-sound l (omega arith)) (length rows) (sym (live .responses .senders .number-is) ∙ live .stage .done e .full)
         (λ i. sender (getD rows i [])) (λ i. scalar (word (getD rows i []) 4 (u - 1)))
@@ -96,39 +96,39 @@ module _ (l : List (List ℕ)) (e : after l .stage ≡ 5) where
 
     -- the kept number of a responder j
     kept-passes : (j : ℕ) → 0 < j → has (r .responses .responders) j ≡ true → raise generator (getD (r .responses .numbers) (base j + (u - 1)) (scalar 0)) ≡ responseAt w u (party j)
-    unfolding transcriptOf
+    unfolding transcriptOf transcript
     kept-passes j p c =
         let sent : sentBy j rows ≡ true = sym (live .responses .senders .mask-is j) ∙ c in
         ap (raise generator) (live .responses .slots j (u - 1) p (omega (arith, within .u-pos, within .u-max)) sent)
         ∙ row-passes w _ (recordOf j rows) (recordOf-all j _ rows (live .rows) sent) u (within .u-pos) (within .u-max)
         ∙ ap (λ (x : ℕ). responseAt w u (party x)) (recordOf-sender j rows sent)
 
-    run-verifies : raise generator (phiOf r u k) ≡ signatureOf w u k
-    unfolding phiOf transcriptOf
+    run-verifies : raise generator (phiOf (r .setup .n) (r .responses) u k) ≡ signatureOf w u k
+    unfolding phiOf transcriptOf transcript
     run-verifies =
-        signature w u (made-sound l (omega arith)) (length (respondersOf r)) (sym (live .responses .senders .members-are) ∙ live .stage .done e .full)
-        (λ i. getD (respondersOf r) i 0) (λ i. getD (r .responses .numbers) (base (getD (respondersOf r) i 0) + (u - 1)) (scalar 0))
-        (λ i c. omega (arith, responder i c, party-max)) (distinct-getD (λ (i : ℕ). i) (respondersOf r) (members-distinct (has (r .responses .responders)) 1 (r .setup .n)) 0)
-        (λ i c. kept-passes (getD (respondersOf r) i 0) (responder i c .0) (responder i c .2)) k (within .k-pos) (within .k-max)
+        signature w u (made-sound l (omega arith)) (length (respondersOf (r .setup .n) (r .responses))) (sym (live .responses .senders .members-are) ∙ live .stage .done e .full)
+        (λ i. getD (respondersOf (r .setup .n) (r .responses)) i 0) (λ i. getD (r .responses .numbers) (base (getD (respondersOf (r .setup .n) (r .responses)) i 0) + (u - 1)) (scalar 0))
+        (λ i c. omega (arith, responder i c, party-max)) (distinct-getD (λ (i : ℕ). i) (respondersOf (r .setup .n) (r .responses)) (members-distinct (has (r .responses .responders)) 1 (r .setup .n)) 0)
+        (λ i c. kept-passes (getD (respondersOf (r .setup .n) (r .responses)) i 0) (responder i c .0) (responder i c .2)) k (within .k-pos) (within .k-max)
       where
-        responder : (i : ℕ) → i < length (respondersOf r) → Member (has (r .responses .responders)) 1 (r .setup .n) (getD (respondersOf r) i 0)
-        responder = all-getD _ (respondersOf r) (members-all (has (r .responses .responders)) 1 (r .setup .n)) 0
+        responder : (i : ℕ) → i < length (respondersOf (r .setup .n) (r .responses)) → Member (has (r .responses .responders)) 1 (r .setup .n) (getD (respondersOf (r .setup .n) (r .responses)) i 0)
+        responder = all-getD _ (respondersOf (r .setup .n) (r .responses)) (members-all (has (r .responses .responders)) 1 (r .setup .n)) 0
 
     pub phi-range : IsScalar (phi (accepted l) u k)
     unfolding phi
     phi-range = scalarAt-range _ _ _ _
 
-    run-range : IsScalar (phiOf r u k)
+    run-range : IsScalar (phiOf (r .setup .n) (r .responses) u k)
     unfolding phiOf
     run-range = scalarAt-range _ _ _ _
 
     -- the run keeps the number of the list
     pub kept-is : kept r u k ≡ phi (accepted l) u k
-    unfolding kept transcriptOf
+    unfolding kept transcriptOf transcript
     kept-is =
         live .stage .done e .signatures (cell (r .setup .a) u k) (cell-lt (r .setup .a) (batch (r .setup .n) (r .setup .t)) u k (within .u-pos) (within .u-max) (within .k-pos) (within .k-max))
-        ∙ ap₂ (phiOf r) (cell-u (r .setup .a) u k (within .u-pos) (within .k-pos) (within .k-max)) (cell-k (r .setup .a) u k (within .k-pos) (within .k-max))
-        ∙ generator-unique (phiOf r u k) (phi (accepted l) u k) run-range phi-range (run-verifies ∙ sym list-verifies)
+        ∙ ap₂ (phiOf (r .setup .n) (r .responses)) (cell-u (r .setup .a) u k (within .u-pos) (within .k-pos) (within .k-max)) (cell-k (r .setup .a) u k (within .k-pos) (within .k-max))
+        ∙ generator-unique (phiOf (r .setup .n) (r .responses) u k) (phi (accepted l) u k) run-range phi-range (run-verifies ∙ sym list-verifies)
 
     -- the equation, in what the list has
     pub phi-verifies : raise generator (phi (accepted l) u k) ≡ signatureOf (read (accepted l)) u k

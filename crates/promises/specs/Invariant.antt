@@ -1,25 +1,24 @@
 -- What a run keeps is what its accepted records say: the invariant of a list, part by part, and what follows at once. Assumes nothing.
 use mathlib.Core.Path.{_≡_, sym, ap, subst, _∙_}
-use mathlib.Core.Bool.{true, and-eq-true-iff}
+use mathlib.Core.Bool.{true}
 use mathlib.Core.List.{List, []}
 use Prim.Native.Nat.{ℕ, _+_, _*_, _-_, _/_, _%_, _≤_, _<_}
 use native.Mathlib.Omega.{arith}
 use lib.ListN.{length, getD}
 use lib.Dec.{eqb}
-use borrow.Author.Tests.{eqb-true, eqb-false, le-leb}
+use borrow.Author.Tests.{eqb-true, eqb-false}
 use Rattle.lists.specs.Tests.{pick, pick-case}
 use Rattle.lists.specs.Members.{All}
 use Rattle.lists.specs.Stores.{stored-from, length-filled}
 use Rattle.sets.specs.Masks.{has, count}
 use Rattle.field.specs.declared.Scalar.{Scalar}
-use Rattle.field.specs.declared.Element.{Element}
-use Rattle.field.specs.Definitions.{scalar, element, IsElement}
+use Rattle.field.specs.Definitions.{scalar, element, IsElement, identity}
 use Rattle.protocol.specs.Transcript.{Transcript, passes}
 use Rattle.records.specs.Parameters.{quorum, batch}
 use Rattle.records.specs.Bytes.{byteAt, numberAt, word, sender}
 use Rattle.records.specs.Tags.{Tag, SU, DE, VE, CH, RE}
 use Rattle.records.specs.Refusals.{setupRefusal, dealingRefusal}
-use Rattle.records.specs.Laws.{Bounds, bounds-test, key-max, setup-passed, dealing-passed}
+use Rattle.records.specs.Laws.{Bounds, key-max, setup-passed, dealing-passed}
 use Rattle.dealing.specs.declared.Setup.{Setup}
 use Rattle.dealing.specs.declared.Dealings.{Dealings}
 use Rattle.complaint.specs.declared.Complaints.{Complaints}
@@ -29,19 +28,11 @@ use Rattle.protocol.specs.Arrays.{base}
 use Rattle.dealing.specs.Definitions.{noSetup, setupOf, wrongShares}
 use Rattle.run.specs.Runs.{wellFormed, stageOf, transcriptOf}
 use Rattle.response.specs.Definitions.{phiOf}
+use Rattle.complaint.specs.Definitions.{blamedBy}
+use Rattle.run.specs.RunLaws.{formed-test}
 use Rattle.promises.specs.Lists.{ofTag, first, some, sentBy, recordOf}
 use Rattle.promises.specs.ListLaws.{recordOf-all}
 use Rattle.promises.specs.Senders.{Senders, Slots, Marks, senders-max}
-
--- ---- what the run has, named once
-
--- what an array of elements holds where none was stored
-abbrev pub filler : Element
-filler = element 0
-
--- BAD as a mask, of n dealers
-abbrev pub badMask : ℕ → Complaints → ℕ
-badMask n c = c .blamed
 
 -- ---- the parts
 
@@ -55,14 +46,16 @@ pub record DealingsOf (setup : Setup) (d : Dealings) (l : List (List ℕ)) : Typ
   pub commitments-size : length (d .commitments) ≡ 1024
   pub wrong-size : length (d .wrong) ≡ 32
   pub senders : Senders (setup .n) (d .count) (d .dealers) l
-  pub slots : Slots element filler (quorum (setup .t) (setup .a)) (d .commitments) l
+  pub slots : Slots element identity (quorum (setup .t) (setup .a)) (d .commitments) l
   pub wrong-is : Marks (wrongShares setup) (d .wrong) l
   pub admitted : All (λ s. dealingRefusal (setup .n) (setup .t) (setup .a) s ≡ 0) l
 
--- l holds the accepted VE; only accepted dealers are blamed
+-- l holds the accepted VE, whose masks are kept; only accepted dealers are blamed
 pub record ComplaintsOf (setup : Setup) (dealers : ℕ) (c : Complaints) (l : List (List ℕ)) : Type 0 where
   pub senders : Senders (setup .n) (c .count) (c .holders) l
-  pub blamed-is : (i : ℕ) → has (badMask (setup .n) c) i ≡ some (λ s. has (numberAt s 4) i) l
+  pub masks-size : length (c .masks) ≡ 32
+  pub masks-are : Marks (λ s. numberAt s 4) (c .masks) l
+  pub blamed-is : (i : ℕ) → has (blamedBy (setup .n) c) i ≡ some (λ s. has (numberAt s 4) i) l
   pub founded : All (λ s. (i : ℕ) → has (numberAt s 4) i ≡ true → has dealers i ≡ true) l
 
 -- s is the accepted CH; empty before there is one, and then every number is 0
@@ -84,7 +77,7 @@ pub record Row (w : Transcript) (holders : ℕ) (s : List ℕ) : Type 0 where
 -- need rows are there, and every φ
 pub record Done (r : Run) : Type 0 where
   pub full : r .responses .count ≡ quorum (r .setup .t) (r .setup .a)
-  pub signatures : (x : ℕ) → x < r .setup .a * batch (r .setup .n) (r .setup .t) → getD (r .signatures) x (scalar 0) ≡ phiOf r (x / r .setup .a + 1) (x % r .setup .a + 1)
+  pub signatures : (x : ℕ) → x < r .setup .a * batch (r .setup .n) (r .setup .t) → getD (r .signatures) x (scalar 0) ≡ phiOf (r .setup .n) (r .responses) (x / r .setup .a + 1) (x % r .setup .a + 1)
 
 -- n-t dealings end stage 1, n-t complaint rows stage 2; and more than t dealers are in BAD at stage 6 alone
 pub record Counts (stage : ℕ) (setup : Setup) (d : Dealings) (c : Complaints) : Type 0 where
@@ -92,8 +85,8 @@ pub record Counts (stage : ℕ) (setup : Setup) (d : Dealings) (c : Complaints) 
   pub dealt : 1 < stage → d .count ≡ setup .n - setup .t
   pub complaining : stage ≤ 2 → c .count < setup .n - setup .t
   pub complained : 2 < stage → c .count ≡ setup .n - setup .t
-  pub few-bad : 2 < stage → stage < 6 → count (setup .n) (has (badMask (setup .n) c)) ≤ setup .t
-  pub many-bad : stage ≡ 6 → setup .t < count (setup .n) (has (badMask (setup .n) c))
+  pub few-bad : 2 < stage → stage < 6 → count (setup .n) (has (blamedBy (setup .n) c)) ≤ setup .t
+  pub many-bad : stage ≡ 6 → setup .t < count (setup .n) (has (blamedBy (setup .n) c))
 
 -- what the stage says; f holds the accepted records of each tag
 pub record AtStage (stage : ℕ) (r : Run) (f : Tag → List (List ℕ)) : Type 0 where
@@ -136,19 +129,19 @@ module _ (setup : Setup) (s : List ℕ) (h : SetupOf setup s) where
   setup-bounds = subst (λ (z : Setup). Bounds (z .n) (z .t) (z .a)) (sym (h .setup-is)) (setup-passed s (h .admitted) .bounds)
 
   -- S is key 0, and S_j key j
-  pub key-is : (j : ℕ) → j ≤ setup .t → getD (setup .key) j filler ≡ element (word s 6 j)
+  pub key-is : (j : ℕ) → j ≤ setup .t → getD (setup .key) j identity ≡ element (word s 6 j)
   unfolding setupOf noSetup
   key-is j l =
-      ap (λ (z : Setup). getD (z .key) j filler) (h .setup-is)
-      ∙ stored-from _ (byteAt s 3 + 1) _ filler (omega (arith, length-filled 32 filler, key-max setup-bounds, ap (λ (z : Setup). z .t) (h .setup-is))) j
+      ap (λ (z : Setup). getD (z .key) j identity) (h .setup-is)
+      ∙ stored-from _ (byteAt s 3 + 1) _ identity (omega (arith, length-filled 32 identity, key-max setup-bounds, ap (λ (z : Setup). z .t) (h .setup-is))) j
       (omega (arith, ap (λ (z : Setup). z .t) (h .setup-is)))
 
-  pub key-element : (j : ℕ) → j ≤ setup .t → IsElement (getD (setup .key) j filler)
+  pub key-element : (j : ℕ) → j ≤ setup .t → IsElement (getD (setup .key) j identity)
   unfolding setupOf
   key-element j l = rw (key-is j l) (setup-passed s (h .admitted) .elements j (omega (arith, ap (λ (z : Setup). z .t) (h .setup-is))))
 
 pub commitment-element : (setup : Setup) (d : Dealings) (l : List (List ℕ)) → DealingsOf setup d l
-    → (i v : ℕ) → 0 < i → has (d .dealers) i ≡ true → v < quorum (setup .t) (setup .a) → IsElement (getD (d .commitments) (base i + v) filler)
+    → (i v : ℕ) → 0 < i → has (d .dealers) i ≡ true → v < quorum (setup .t) (setup .a) → IsElement (getD (d .commitments) (base i + v) identity)
 commitment-element setup d l h i v p e k =
     let sent : sentBy i l ≡ true = sym (h .senders .mask-is i) ∙ e in
     rw (h .slots i v p k sent) (dealing-passed (setup .n) (setup .t) (setup .a) (recordOf i l) (recordOf-all i _ l (h .admitted) sent) .elements v k)
@@ -158,16 +151,14 @@ module _ (r : Run) (f : Tag → List (List ℕ)) (h : Live r f) where
   live-bounds = setup-bounds (r .setup) (first (f SU)) (h .setup)
 
   pub live-well-formed : wellFormed r ≡ true
-  unfolding wellFormed
   live-well-formed =
-      and-eq-true-iff _ _ .1 (
-        bounds-test live-bounds,
-        and-eq-true-iff _ _ .1 (
-          le-leb _ _ (senders-max (h .dealings .senders)),
-          and-eq-true-iff _ _ .1
-              (le-leb _ _ (senders-max (h .complaints .senders)), le-leb _ _ (senders-max (h .responses .senders))),
-        ),
-      )
+      formed-test (record {
+        stage-max = h .stage .stage-max;
+        bounds = live-bounds;
+        dealings-max = senders-max (h .dealings .senders);
+        complaints-max = senders-max (h .complaints .senders);
+        responses-max = senders-max (h .responses .senders);
+      })
 
 -- its stage counts as it stands
 pub stage-of : (r : Run) (l : List (List ℕ)) → Invariant r l → stageOf r ≡ r .stage

@@ -12,8 +12,8 @@ use Rattle.lists.specs.Tests.{pick, allTo, all-at, no-both, not-yes, and-left, 
 use Rattle.lists.specs.Members.{all-map, all-snoc}
 use Rattle.lists.specs.Stores.{length-stored, length-filled}
 use Rattle.sets.specs.Masks.{has, insert}
-use Rattle.sets.specs.MaskLaws.{has-zero, has-or, has-insert, has-above}
-use Rattle.field.specs.Definitions.{scalar, element}
+use Rattle.sets.specs.MaskLaws.{has-insert, has-above}
+use Rattle.field.specs.Definitions.{scalar, element, identity}
 use Rattle.records.specs.Parameters.{quorum, batch}
 use Rattle.records.specs.Bytes.{numberAt, sender}
 use Rattle.records.specs.Refusals.{dealingRefusal}
@@ -24,13 +24,14 @@ use Rattle.complaint.specs.declared.Complaints.{Complaints}
 use Rattle.response.specs.declared.Responses.{Responses}
 use Rattle.run.specs.declared.Run.{Run}
 use Rattle.dealing.specs.Definitions.{noDealings, dealingNumber, wrongShares, withDealing, mayBlame}
-use Rattle.complaint.specs.Definitions.{noComplaints, complaintNumber, withComplaint}
-use Rattle.response.specs.Definitions.{noResponses, responseNumber, withResponse}
+use Rattle.complaint.specs.Definitions.{noComplaints, complaintNumber, withComplaint, blamedBy}
+use Rattle.response.specs.Definitions.{noResponses, responseNumber, withResponse, transcript}
 use Rattle.run.specs.Runs.{transcriptOf}
+use Rattle.complaint.specs.ComplaintLaws.{blamed-none, blamed-more}
 use Rattle.promises.specs.Lists.{some}
 use Rattle.promises.specs.ListLaws.{snoc, some-snoc}
 use Rattle.promises.specs.Senders.{New, has-pos, senders-none, slots-none, marks-none, senders-more, slots-more, marks-more}
-use Rattle.promises.specs.Invariant.{filler, badMask, DealingsOf, ComplaintsOf, ResponsesOf, Row}
+use Rattle.promises.specs.Invariant.{DealingsOf, ComplaintsOf, ResponsesOf, Row}
 
 -- no refusal: none before, and none after
 or-next : (k next : ℕ) → orNext k next ≡ 0 → (k ≡ 0) × (next ≡ 0)
@@ -47,17 +48,24 @@ pub no-dealings : (setup : Setup) → DealingsOf setup noDealings []
 unfolding noDealings some
 no-dealings setup =
     record {
-      commitments-size = length-filled 1024 filler;
+      commitments-size = length-filled 1024 identity;
       wrong-size = length-filled {A = ℕ} 32 0;
       senders = senders-none (setup .n);
-      slots = slots-none element filler (quorum (setup .t) (setup .a)) (noDealings .commitments);
+      slots = slots-none element identity (quorum (setup .t) (setup .a)) (noDealings .commitments);
       wrong-is = marks-none (wrongShares setup) (noDealings .wrong);
       admitted = tt;
     }
 
 pub no-complaints : (setup : Setup) (dealers : ℕ) → ComplaintsOf setup dealers noComplaints []
 unfolding noComplaints some
-no-complaints setup dealers = record { senders = senders-none (setup .n); blamed-is = has-zero; founded = tt }
+no-complaints setup dealers =
+    record {
+      senders = senders-none (setup .n);
+      masks-size = length-filled {A = ℕ} 32 0;
+      masks-are = marks-none (λ s. numberAt s 4) (noComplaints .masks);
+      blamed-is = blamed-none (setup .n);
+      founded = tt;
+    }
 
 pub no-responses : (setup : Setup) → ResponsesOf setup noResponses []
 unfolding noResponses
@@ -70,7 +78,7 @@ no-responses setup =
 
 -- ---- DE
 
-pub dealing-new : (r : Run) (s : List ℕ) → dealingNumber r s ≡ 0
+pub dealing-new : (r : Run) (s : List ℕ) → dealingNumber (r .setup) (r .dealings) s ≡ 0
     → (dealingRefusal (r .setup .n) (r .setup .t) (r .setup .a) s ≡ 0) × New (r .setup .n) (r .dealings .dealers) s
 unfolding dealingNumber
 dealing-new r s e =
@@ -86,7 +94,7 @@ module _ (setup : Setup) (d : Dealings) (s : List ℕ) (l : List (List ℕ)) (b 
         commitments-size = length-stored (d .commitments) _ _ _ ∙ h .commitments-size;
         wrong-size = length-set (d .wrong) _ _ ∙ h .wrong-size;
         senders = senders-more s (b .n-max) c (h .senders);
-        slots = slots-more s (b .n-max) c (h .senders) element filler _ (d .commitments) (omega (arith, quorum-max b)) (h .commitments-size) (h .slots);
+        slots = slots-more s (b .n-max) c (h .senders) element identity _ (d .commitments) (omega (arith, quorum-max b)) (h .commitments-size) (h .slots);
         wrong-is = marks-more s (b .n-max) c (h .senders) (wrongShares setup) (d .wrong) (h .wrong-size) (h .wrong-is);
         admitted = all-snoc _ l s (h .admitted) e;
       }
@@ -99,6 +107,8 @@ pub complaints-kept : (setup : Setup) (dealers : ℕ) (c : Complaints) (s : List
 complaints-kept setup dealers c s l b new h =
     record {
       senders = h .senders;
+      masks-size = h .masks-size;
+      masks-are = h .masks-are;
       blamed-is = h .blamed-is;
       founded = all-map _ _ (λ x f i e. rw (has-insert dealers (sender s) i (new .sender-pos) (omega arith), f i e)) l (h .founded);
     }
@@ -119,7 +129,7 @@ blames-dealers n j mask d l e i h = and-left (has (d .dealers) i) _ (go (decLt n
     go (yes k) = absurd (no-both h (has-above mask n i l k))
     go (no k) = rw (back, h) at (all-at n _ e (i - 1) (omega (arith, pos)))
 
-pub complaint-new : (r : Run) (s : List ℕ) → complaintNumber r s ≡ 0
+pub complaint-new : (r : Run) (s : List ℕ) → complaintNumber (r .setup) (r .dealings) (r .complaints) s ≡ 0
     → New (r .setup .n) (r .complaints .holders) s × ((i : ℕ) → has (numberAt s 4) i ≡ true → has (r .dealings .dealers) i ≡ true)
 unfolding complaintNumber
 complaint-new r s e =
@@ -135,18 +145,20 @@ unfolding withComplaint
 complaints-more setup dealers c s l b new blames h =
     record {
       senders = senders-more s b new (h .senders);
+      masks-size = length-set (c .masks) _ _ ∙ h .masks-size;
+      masks-are = marks-more s b new (h .senders) (λ x. numberAt x 4) (c .masks) (h .masks-size) (h .masks-are);
       blamed-is = λ i. more i ∙ ap (λ (z : Bool). z || has (numberAt s 4) i) (h .blamed-is i) ∙ sym (some-snoc (λ x. has (numberAt x 4) i) l s);
       founded = all-snoc _ l s (h .founded) blames;
     }
   where
-    more : (i : ℕ) → has (badMask (setup .n) (withComplaint c s)) i ≡ (has (badMask (setup .n) c) i || has (numberAt s 4) i)
-    more i = has-or (badMask (setup .n) c) (numberAt s 4) i
+    more : (i : ℕ) → has (blamedBy (setup .n) (withComplaint c s)) i ≡ (has (blamedBy (setup .n) c) i || has (numberAt s 4) i)
+    more = blamed-more (setup .n) c s (h .masks-size) b (new .sender-pos) (new .sender-max) (new .unsent)
 
 -- ---- RE
 
-pub response-new : (r : Run) (s : List ℕ) → responseNumber r s ≡ 0
+pub response-new : (r : Run) (s : List ℕ) → responseNumber (r .setup) (r .dealings) (r .complaints) (r .challenges) (r .responses) s ≡ 0
     → New (r .setup .n) (r .responses .responders) s × Row (transcriptOf r) (r .complaints .holders) s
-unfolding responseNumber transcriptOf
+unfolding responseNumber transcriptOf transcript
 response-new r s e =
     let c = or-next _ _ e in
     let p = response-passed _ _ s (c .0) in

@@ -6,7 +6,7 @@ use Prim.Native.Nat.{ℕ, suc, _+_, _-_, _≤_, _<_}
 use native.Mathlib.Omega.{arith}
 use lib.ListN.{length}
 use lib.Dec.{eqb, ltb, leb}
-use borrow.Author.Tests.{eqb-true, eqb-false, leb-true, ltb-true, ltb-false}
+use borrow.Author.Tests.{eqb-true, eqb-false, ne-eqb, leb-true, ltb-true, ltb-false}
 use Rattle.lists.specs.Tests.{pick, pick-case, and-left, and-right}
 use Rattle.lists.specs.Members.{all-snoc}
 use Rattle.lists.specs.Stores.{length-stored, stored-from, length-filled, getD-filled}
@@ -15,20 +15,24 @@ use Rattle.field.specs.Definitions.{scalar}
 use Rattle.records.specs.Parameters.{quorum}
 use Rattle.records.specs.Bytes.{byteAt, numberAt, word}
 use Rattle.records.specs.Tags.{Tag, SU, DE, VE, CH, RE, unknown, tagOf}
-use Rattle.records.specs.Refusals.{setupRefusal}
+use Rattle.records.specs.Refusals.{setupRefusal, challengesRefusal}
 use Rattle.records.specs.Laws.{setup-passed, cells-max, quorum-pos}
 use Rattle.dealing.specs.declared.Setup.{Setup}
 use Rattle.dealing.specs.declared.Dealings.{Dealings}
 use Rattle.complaint.specs.declared.Complaints.{Complaints}
 use Rattle.run.specs.declared.Run.{Run}
 use Rattle.dealing.specs.Definitions.{noDealings, setupOf, dealingNumber, withDealing}
-use Rattle.complaint.specs.Definitions.{noComplaints, complaintNumber, withComplaint, complaintStage}
+use Rattle.complaint.specs.Definitions.{noComplaints, complaintNumber, withComplaint, complaintStage, blamedBy}
+use Rattle.response.specs.Definitions.{transcript, phiOf, responseNumber, withResponse, signaturesOf}
 use Rattle.run.specs.Runs.{noScalars, begun, fresh, stageOf, transcriptOf}
-use Rattle.response.specs.Definitions.{phiOf, responseNumber, withResponse}
-use Rattle.run.specs.Steps.{afterDealing, afterSetup, afterComplaint, challengesNumber, afterChallenges, withRow, finished, afterResponse, refused, taken, stepAt, stepOf, afterFrom, after}
+use Rattle.run.specs.Steps.{afterSetup, afterDealing, afterComplaint, afterChallenges, withRow, finished, afterResponse, takenAt, atStage, handlerAt, refused, answered, handled, stepOf, afterFrom, after}
+use Rattle.run.specs.StepLaws.{stage-case, answered-case}
+use Rattle.run.specs.declared.Reply.{Reply}
+use Rattle.run.specs.declared.Handler.{Handler}
+use Rattle.run.specs.declared.Handler.the-variants.{TakeSetup, TakeDealing, TakeComplaint, TakeChallenges, TakeResponse}
 use Rattle.promises.specs.Lists.{acceptedFrom, accepted, ofTag, first}
 use Rattle.promises.specs.ListLaws.{snoc, more, ofTag-snoc}
-use Rattle.promises.specs.Invariant.{badMask, Counts, AtStage, Live, Responding, Invariant, live-bounds, stage-of}
+use Rattle.promises.specs.Invariant.{Counts, AtStage, Live, Responding, Invariant, live-bounds, stage-of}
 use Rattle.promises.specs.InvariantParts.{no-dealings, no-complaints, no-responses, dealing-new, dealings-more, complaint-new, complaints-more, complaints-kept, response-new, responses-more}
 
 -- a stage that no CH leads to: 1, 2, 3 or 6
@@ -99,8 +103,8 @@ setup-live s e =
 
 -- ---- DE
 
-dealing-live : (r : Run) (s : List ℕ) (f : Tag → List (List ℕ)) → r .stage ≡ 1 → dealingNumber r s ≡ 0 → Live r f → Live (afterDealing r s) (more DE s f)
-unfolding afterDealing withDealing transcriptOf
+dealing-live : (r : Run) (s : List ℕ) (f : Tag → List (List ℕ)) → r .stage ≡ 1 → dealingNumber (r .setup) (r .dealings) s ≡ 0 → Live r f → Live (afterDealing r s) (more DE s f)
+unfolding afterDealing withDealing transcriptOf transcript
 dealing-live r s f g e h =
     let c = dealing-new r s e in
     let b = live-bounds r f h in
@@ -136,8 +140,8 @@ dealing-live r s f g e h =
 
 -- ---- VE
 
-complaint-live : (r : Run) (s : List ℕ) (f : Tag → List (List ℕ)) → r .stage ≡ 2 → complaintNumber r s ≡ 0 → Live r f → Live (afterComplaint r s) (more VE s f)
-unfolding afterComplaint complaintStage withComplaint transcriptOf
+complaint-live : (r : Run) (s : List ℕ) (f : Tag → List (List ℕ)) → r .stage ≡ 2 → complaintNumber (r .setup) (r .dealings) (r .complaints) s ≡ 0 → Live r f → Live (afterComplaint r s) (more VE s f)
+unfolding afterComplaint complaintStage withComplaint transcriptOf transcript
 complaint-live r s f g e h =
     let c = complaint-new r s e in
     let none = h .stage .early (omega arith) in
@@ -164,7 +168,7 @@ complaint-live r s f g e h =
     few = h .stage .counts .complaining (omega arith)
 
     counts : (stage : ℕ) → 1 < stage → (stage ≤ 2 → c' .count < r .setup .n - r .setup .t) → (2 < stage → c' .count ≡ r .setup .n - r .setup .t)
-        → (2 < stage → stage < 6 → count (r .setup .n) (has (badMask (r .setup .n) c')) ≤ r .setup .t) → (stage ≡ 6 → r .setup .t < count (r .setup .n) (has (badMask (r .setup .n) c')))
+        → (2 < stage → stage < 6 → count (r .setup .n) (has (blamedBy (r .setup .n) c')) ≤ r .setup .t) → (stage ≡ 6 → r .setup .t < count (r .setup .n) (has (blamedBy (r .setup .n) c')))
         → Counts stage (r .setup) (r .dealings) c'
     counts stage l x y p q =
         record { dealing = λ z. omega arith; dealt = λ z. h .stage .counts .dealt (omega arith); complaining = x; complained = y; few-bad = p; many-bad = q }
@@ -184,7 +188,7 @@ counts-past setup d c stage next l m k h =
     }
 
 challenges-live : (r : Run) (s : List ℕ) (f : Tag → List (List ℕ)) → r .stage ≡ 3 → Live r f → Live (afterChallenges r s) (more CH s f)
-unfolding afterChallenges transcriptOf first
+unfolding afterChallenges transcriptOf transcript first
 challenges-live r s f g h =
     let none = h .stage .early (omega arith) in
     record {
@@ -207,8 +211,8 @@ challenges-few r s f g h e = omega (arith, h .responses .senders .number-is, ap 
 
 -- ---- RE
 
-row-live : (r : Run) (s : List ℕ) (f : Tag → List (List ℕ)) → r .stage ≡ 4 → responseNumber r s ≡ 0 → Live r f → Live (withRow r s) (more RE s f)
-unfolding withRow withResponse transcriptOf
+row-live : (r : Run) (s : List ℕ) (f : Tag → List (List ℕ)) → r .stage ≡ 4 → responseNumber (r .setup) (r .dealings) (r .complaints) (r .challenges) (r .responses) s ≡ 0 → Live r f → Live (withRow r s) (more RE s f)
+unfolding withRow withResponse transcriptOf transcript
 row-live r s f g e h =
     let c = response-new r s e in
     record {
@@ -223,7 +227,7 @@ row-live r s f g e h =
     }
 
 finished-live : (r : Run) (f : Tag → List (List ℕ)) → r .stage ≡ 4 → r .responses .count ≡ quorum (r .setup .t) (r .setup .a) → Live r f → Live (finished r) f
-unfolding finished transcriptOf phiOf
+unfolding finished transcriptOf transcript signaturesOf phiOf
 finished-live r f g e h =
     record {
       setup = h .setup;
@@ -247,7 +251,7 @@ finished-live r f g e h =
       };
     }
 
-response-live : (r : Run) (s : List ℕ) (f : Tag → List (List ℕ)) → r .stage ≡ 4 → responseNumber r s ≡ 0 → Live r f → Live (afterResponse r s) (more RE s f)
+response-live : (r : Run) (s : List ℕ) (f : Tag → List (List ℕ)) → r .stage ≡ 4 → responseNumber (r .setup) (r .dealings) (r .complaints) (r .challenges) (r .responses) s ≡ 0 → Live r f → Live (afterResponse r s) (more RE s f)
 unfolding afterResponse withRow withResponse
 response-live r s f g e h =
     let row = row-live r s f g e h in
@@ -262,30 +266,33 @@ response-few r s g few =
 
 -- ---- the step, and the list
 
--- a record at its stage: refused, or taken
-taken-keeps : (g : ℕ) (r : Run) (k : ℕ) (next : Run) (s : List ℕ) (l : List (List ℕ)) → Invariant r l
-    → (r .stage ≡ g → k ≡ 0 → Live next (more (tagOf s) s (λ g. ofTag g l)) × Responding next)
-    → Invariant (taken g r k next .run) (pick (eqb (taken g r k next .number) 0) (snoc l s) l)
-unfolding taken
-taken-keeps g r k next s l h f = go (eqb (stageOf r) g) refl (eqb k 0) refl
-  where
-    accepts : Live next (more (tagOf s) s (λ g. ofTag g l)) × Responding next → Invariant next (snoc l s)
-    accepts (h, few) =
-        record {
-          start = λ e. absurd (omega (arith, h .stage .stage-pos));
-          live = λ p. subst (Live next) (sym (fun-ext (ofTag-snoc l s))) h;
-          responding = few;
-        }
+-- what a reply does to the accepted records
+abbrev Kept : List (List ℕ) → List ℕ → Reply → Type 0
+Kept l s y = Invariant (y .run) (pick (eqb (y .number) 0) (snoc l s) l)
 
-    go : (b : Bool) → eqb (stageOf r) g ≡ b → (c : Bool) → eqb k 0 ≡ c
-        → Invariant ((pick b (pick c (record { run = next; number = 0 }) (refused r k)) (refused r 11)) .run)
-        (pick (eqb ((pick b (pick c (record { run = next; number = 0 }) (refused r k)) (refused r 11)) .number) 0) (snoc l s) l)
-    go true e true d = accepts (f (sym (stage-of r l h) ∙ eqb-true _ _ e) (eqb-true _ _ d))
-    go true e false d = rw d h
-    go false e c d = h
+module _ (r : Run) (s : List ℕ) (l : List (List ℕ)) (h : Invariant r l) where
+  -- a refusal
+  refused-keeps : (k : ℕ) → (k ≡ 0 → ⊥) → Kept l s (refused r k)
+  refused-keeps k n = rw (ne-eqb k 0 n) h
 
-step-keeps : (r : Run) (s : List ℕ) (l : List (List ℕ)) → Invariant r l → Invariant (stepOf r s .run) (pick (eqb (stepOf r s .number) 0) (snoc l s) l)
-unfolding stepOf stepAt ofTag challengesNumber
+  -- a record at its stage: refused, or taken
+  answered-keeps : (k : ℕ) (next : Run) → (k ≡ 0 → Live next (more (tagOf s) s (λ g. ofTag g l)) × Responding next) → Kept l s (answered r k next)
+  answered-keeps k next f = answered-case (Kept l s) r k next (λ e. accepts (f e)) (refused-keeps k)
+    where
+      accepts : Live next (more (tagOf s) s (λ g. ofTag g l)) × Responding next → Invariant next (snoc l s)
+      accepts (live, few) =
+          record {
+            start = λ e. absurd (omega (arith, live .stage .stage-pos));
+            live = λ p. subst (Live next) (sym (fun-ext (ofTag-snoc l s))) live;
+            responding = few;
+          }
+
+  -- at the stage that takes its tag, or at another
+  stage-keeps : (g : Tag) (a : Handler) → (r .stage ≡ takenAt g → Kept l s (handled a r s)) → Kept l s (handled (atStage g (stageOf r) a) r s)
+  stage-keeps g a f = stage-case (Kept l s) g a r s (λ e. f (sym (stage-of r l h) ∙ e)) (λ n. refused-keeps 11 (λ e. absurd (omega arith)))
+
+step-keeps : (r : Run) (s : List ℕ) (l : List (List ℕ)) → Invariant r l → Kept l s (stepOf r s)
+unfolding stepOf handlerAt handled takenAt ofTag
 step-keeps r s l h = go (tagOf s) refl
   where
     f : Tag → List (List ℕ)
@@ -300,13 +307,23 @@ step-keeps r s l h = go (tagOf s) refl
     both : (k : Tag) (next : Run) → Live next (more k s f) → more k s f CH ≡ [] → Live next (more k s f) × Responding next
     both k next h none = (h, quiet next (more k s f) h none)
 
-    go : (k : Tag) → tagOf s ≡ k → Invariant (stepAt k r s .run) (pick (eqb (stepAt k r s .number) 0) (snoc l s) l)
-    go SU m = taken-keeps 0 r _ _ s l h (λ g e. rw (m, h .start g) (setup-live s e, quiet _ _ (setup-live s e) refl))
-    go DE m = taken-keeps 1 r _ _ s l h (λ g e. rw m (both DE _ (dealing-live r s f g e (live 0 g)) (none 0 g (omega arith))))
-    go VE m = taken-keeps 2 r _ _ s l h (λ g e. rw m (both VE _ (complaint-live r s f g e (live 1 g)) (none 1 g (omega arith))))
-    go CH m = taken-keeps 3 r _ _ s l h (λ g e. rw m (challenges-live r s f g (live 2 g), challenges-few r s f g (live 2 g)))
-    go RE m = taken-keeps 4 r _ _ s l h (λ g e. rw m (response-live r s f g e (live 3 g), response-few r s g (h .responding)))
-    go unknown m = h
+    go : (k : Tag) → tagOf s ≡ k → Kept l s (handled (handlerAt k (stageOf r)) r s)
+    go SU m =
+        stage-keeps r s l h SU TakeSetup (λ g. answered-keeps r s l h (setupRefusal s) (afterSetup s)
+        (λ e. rw (m, h .start g) (setup-live s e, quiet _ _ (setup-live s e) refl)))
+    go DE m =
+        stage-keeps r s l h DE TakeDealing (λ g. answered-keeps r s l h (dealingNumber (r .setup) (r .dealings) s) (afterDealing r s)
+        (λ e. rw m (both DE _ (dealing-live r s f g e (live 0 g)) (none 0 g (omega arith)))))
+    go VE m =
+        stage-keeps r s l h VE TakeComplaint (λ g. answered-keeps r s l h (complaintNumber (r .setup) (r .dealings) (r .complaints) s) (afterComplaint r s)
+        (λ e. rw m (both VE _ (complaint-live r s f g e (live 1 g)) (none 1 g (omega arith)))))
+    go CH m =
+        stage-keeps r s l h CH TakeChallenges (λ g. answered-keeps r s l h (challengesRefusal (r .setup .n) (r .setup .t) (r .setup .a) s) (afterChallenges r s)
+        (λ e. rw m (challenges-live r s f g (live 2 g), challenges-few r s f g (live 2 g))))
+    go RE m =
+        stage-keeps r s l h RE TakeResponse (λ g. answered-keeps r s l h (responseNumber (r .setup) (r .dealings) (r .complaints) (r .challenges) (r .responses) s) (afterResponse r s)
+        (λ e. rw m (response-live r s f g e (live 3 g), response-few r s g (h .responding))))
+    go unknown m = refused-keeps r s l h 1 (λ e. absurd (omega arith))
 
 fresh-invariant : Invariant fresh []
 unfolding fresh begun

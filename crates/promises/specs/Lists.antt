@@ -60,6 +60,10 @@ module _ (l : List (List ℕ)) where
   unfoldable pub hold : ℕ → Bool
   hold j = sentBy j (ofTag VE l)
 
+  -- the mask of holder j: that of its accepted VE, and an empty one for a party that has none
+  unfoldable pub maskFrom : ℕ → ℕ
+  maskFrom j = pick (hold j) (numberAt (recordOf j (ofTag VE l)) 4) 0
+
   -- BAD: the dealers whom any of them blames
   unfoldable pub bad : ℕ → Bool
   bad i = dealer i && some (λ s. has (numberAt s 4) i) (ofTag VE l)

@@ -5,7 +5,7 @@ use mathlib.Core.List.{List}
 use Prim.Native.Nat.{ℕ, _-_, _≤_, _<_}
 use native.Mathlib.Omega.{arith}
 use lib.ListN.{length}
-use Rattle.lists.specs.Tests.{and-left}
+use Rattle.lists.specs.Tests.{and-left, pick-same}
 use Rattle.lists.specs.Members.{Distinct}
 use Rattle.sets.specs.Masks.{has, count}
 use Rattle.sets.specs.MemberLaws.{same-members}
@@ -17,13 +17,16 @@ use Rattle.protocol.specs.Alike.{Alike}
 use Rattle.protocol.specs.Signature.{Sound}
 use Rattle.dealing.specs.declared.Setup.{Setup}
 use Rattle.protocol.specs.Arrays.{cell}
+use Rattle.response.specs.Definitions.{transcript}
 use Rattle.run.specs.Runs.{wellFormed, stageOf, transcriptOf}
-use Rattle.dealing.specs.Definitions.{setupOf}
+use Rattle.dealing.specs.Definitions.{setupOf, keyIn}
 use Rattle.run.specs.Steps.{after}
-use Rattle.promises.specs.Lists.{accepted, ofTag, first, dealer, hold, bad, qualified, read}
+use Rattle.promises.specs.Senders.{has-pos}
+use Rattle.promises.specs.Lists.{accepted, ofTag, first, dealer, hold, bad, qualified, read, maskFrom}
 use Rattle.promises.specs.ListLaws.{some-all}
 use Rattle.promises.specs.Places.{cell-lt}
-use Rattle.promises.specs.Invariant.{badMask, Live, key-is, key-element, commitment-element, live-bounds, live-well-formed, stage-of}
+use Rattle.complaint.specs.Definitions.{blamedBy, maskBy}
+use Rattle.promises.specs.Invariant.{Live, key-is, key-element, commitment-element, live-bounds, live-well-formed, stage-of}
 use Rattle.promises.specs.InvariantSteps.{invariant-after}
 
 -- what only members have
@@ -44,7 +47,7 @@ module _ (l : List (List ℕ)) (p : 0 < after l .stage) where
 
   -- the parameters are within the bounds, the key and the commitments of QUAL elements
   pub made-sound : Sound (transcriptOf (after l))
-  unfolding transcriptOf
+  unfolding transcriptOf transcript keyIn
   made-sound =
       record {
         bounds = live-bounds (after l) _ made-live;
@@ -58,15 +61,20 @@ module _ (l : List (List ℕ)) (p : 0 < after l .stage) where
   unfolding hold
   made-hold j = made-live .complaints .senders .mask-is j
 
-  pub made-bad : (i : ℕ) → has (badMask (after l .setup .n) (after l .complaints)) i ≡ bad (accepted l) i
+  -- the run keeps the mask of each holder's accepted VE, read from its bytes
+  pub made-masks : (j : ℕ) → maskBy (after l .complaints) j ≡ maskFrom (accepted l) j
+  unfolding maskBy maskFrom
+  made-masks j = rw (made-hold j) (pick-same (hold (accepted l) j) 0 (λ e. made-live .complaints .masks-are j (has-pos _ j (made-hold j ∙ e)) (sym (made-live .complaints .senders .mask-is j) ∙ made-hold j ∙ e)))
+
+  pub made-bad : (i : ℕ) → has (blamedBy (after l .setup .n) (after l .complaints)) i ≡ bad (accepted l) i
   unfolding bad dealer
   made-bad i =
       let blamed = made-live .complaints .blamed-is i in
-      within (has (badMask (after l .setup .n) (after l .complaints)) i) (has (after l .dealings .dealers) i)
+      within (has (blamedBy (after l .setup .n) (after l .complaints)) i) (has (after l .dealings .dealers) i)
       (λ e. let w = some-all _ _ _ (made-live .complaints .founded) (sym blamed ∙ e) in w .2 i (w .1))
       ∙ ap₂ _&&_ (made-live .dealings .senders .mask-is i) blamed
 
-  pub made-qual : (i : ℕ) → (has (after l .dealings .dealers) i && not (has (badMask (after l .setup .n) (after l .complaints)) i)) ≡ qualified (accepted l) i
+  pub made-qual : (i : ℕ) → (has (after l .dealings .dealers) i && not (has (blamedBy (after l .setup .n) (after l .complaints)) i)) ≡ qualified (accepted l) i
   unfolding qualified dealer
   made-qual i = ap₂ (λ (d b : Bool). d && not b) (made-live .dealings .senders .mask-is i) (made-bad i)
 
@@ -76,7 +84,7 @@ module _ (l : List (List ℕ)) (p : 0 < after l .stage) where
   setup-same f = ap f (made-live .setup .setup-is)
 
   pub made-alike : Alike (transcriptOf (after l)) (read (accepted l))
-  unfolding transcriptOf read setupOf
+  unfolding transcriptOf transcript keyIn read setupOf
   made-alike =
       record {
         n-same = setup-same (λ z. z .n);
@@ -94,7 +102,7 @@ module _ (l : List (List ℕ)) (p : 0 < after l .stage) where
   -- ---- the numbers of records, by stage
 
   pub read-count : read (accepted l) .n - read (accepted l) .t ≡ after l .setup .n - after l .setup .t
-  unfolding transcriptOf
+  unfolding transcriptOf transcript
   read-count = sym (ap₂ (λ (n t : ℕ). n - t) (made-alike .n-same) (made-alike .t-same))
 
   -- n-t DE from different dealers
@@ -111,17 +119,17 @@ module _ (l : List (List ℕ)) (p : 0 < after l .stage) where
   pub made-holders-differ : Distinct sender (ofTag VE (accepted l))
   made-holders-differ = made-live .complaints .senders .differ
 
-  bad-count : count (read (accepted l) .n) (bad (accepted l)) ≡ count (after l .setup .n) (has (badMask (after l .setup .n) (after l .complaints)))
-  unfolding transcriptOf
+  bad-count : count (read (accepted l) .n) (bad (accepted l)) ≡ count (after l .setup .n) (has (blamedBy (after l .setup .n) (after l .complaints)))
+  unfolding transcriptOf transcript
   bad-count =
       ap (λ (n : ℕ). count n (bad (accepted l))) (sym (made-alike .n-same))
-      ∙ same-members (has (badMask (after l .setup .n) (after l .complaints))) (bad (accepted l)) 1 (after l .setup .n) (λ i p m. sym (made-bad i))
+      ∙ same-members (has (blamedBy (after l .setup .n) (after l .complaints))) (bad (accepted l)) 1 (after l .setup .n) (λ i p m. sym (made-bad i))
 
   -- at most t dealers in BAD, but at stage 6
   pub made-few-bad : 2 < after l .stage → after l .stage < 6 → count (read (accepted l) .n) (bad (accepted l)) ≤ read (accepted l) .t
-  unfolding transcriptOf
+  unfolding transcriptOf transcript
   made-few-bad m k = omega (arith, bad-count, made-alike .t-same, made-live .stage .counts .few-bad m k)
 
   pub made-many-bad : after l .stage ≡ 6 → read (accepted l) .t < count (read (accepted l) .n) (bad (accepted l))
-  unfolding transcriptOf
+  unfolding transcriptOf transcript
   made-many-bad m = omega (arith, bad-count, made-alike .t-same, made-live .stage .counts .many-bad m)

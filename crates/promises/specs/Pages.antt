@@ -18,11 +18,12 @@ use Rattle.field.specs.Definitions.{generator, product, raise}
 use Rattle.records.specs.Parameters.{batch}
 use Rattle.protocol.specs.Transcript.{nonce}
 use Rattle.protocol.specs.Alike.{nonce-same}
+use Rattle.response.specs.Definitions.{transcript}
 use Rattle.run.specs.Runs.{fresh, stageOf, transcriptOf, kept}
 use Rattle.run.specs.Steps.{after}
 use Rattle.log.specs.Cutting.{recordsOf, runOf}
 use Rattle.text.specs.Lines.{line, setText, setLine}
-use Rattle.closing.specs.Closing.{holdWord, qualWord, badWord, sigWord, endWord, signatureLines, closing}
+use Rattle.closing.specs.Closing.{holdWord, qualWord, badWord, sigWord, endWord, signatureLines, closing, signatureLine}
 use Rattle.log.specs.Report.{longWord, refusalLines, reportOf}
 use Rattle.promises.specs.Lists.{accepted, hold, bad, qualified, read, phi, stageBy}
 use Rattle.promises.specs.Places.{place-at}
@@ -70,7 +71,7 @@ module _ (l : List (List ℕ)) where
   -- a set's members, fixed or not
   members-are : (mask : ℕ) (set : ℕ → Bool) → (3 ≤ stageBy (accepted l) → (i : ℕ) → has mask i ≡ set i) → (stageBy (accepted l) < 3 → mask ≡ 0)
       → members (after l .setup .n) (has mask) ≡ pick (leb 3 (stageBy (accepted l))) (members (read (accepted l) .n) set) []
-  unfolding transcriptOf
+  unfolding transcriptOf transcript
   members-are mask set fixed none = go (leb 3 (stageBy (accepted l))) refl
     where
       go : (b : Bool) → leb 3 (stageBy (accepted l)) ≡ b → members (after l .setup .n) (has mask) ≡ pick b (members (read (accepted l) .n) set) []
@@ -87,7 +88,7 @@ module _ (l : List (List ℕ)) where
 
   -- at stage 5, R(u,k) and φ(u,k) of the list
   signed-lines : after l .stage ≡ 5 → (m : ℕ) → m ≤ read (accepted l) .a * batch (read (accepted l) .n) (read (accepted l) .t) → signatureLines (after l) m ≡ signedLines (accepted l) m
-  unfolding signatureLines signedLines transcriptOf
+  unfolding signatureLines signatureLine signedLines transcriptOf transcript
   signed-lines e zero b = refl
   signed-lines e (suc x) b =
       let p : 0 < after l .stage = omega arith in
@@ -102,7 +103,7 @@ module _ (l : List (List ℕ)) where
 
   signatures-are : pick (eqb (stageOf (after l)) 5) (signatureLines (after l) (after l .setup .a * batch (after l .setup .n) (after l .setup .t))) []
       ≡ pick (eqb (stageBy (accepted l)) 5) (signedLines (accepted l) (read (accepted l) .a * batch (read (accepted l) .n) (read (accepted l) .t))) []
-  unfolding transcriptOf
+  unfolding transcriptOf transcript
   signatures-are =
       ap (λ (g : ℕ). pick (eqb g 5) (signatureLines (after l) (after l .setup .a * batch (after l .setup .n) (after l .setup .t))) []) (answers l .stage)
       ∙ go (eqb (stageBy (accepted l)) 5) refl

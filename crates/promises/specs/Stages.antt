@@ -8,6 +8,7 @@ use lib.ListN.{length}
 use borrow.Author.Tests.{lt-ltb, le-ltb, ne-eqb}
 use Rattle.records.specs.Parameters.{quorum}
 use Rattle.records.specs.Tags.{Tag, SU, DE, VE, CH, RE}
+use Rattle.response.specs.Definitions.{transcript}
 use Rattle.run.specs.Runs.{transcriptOf}
 use Rattle.run.specs.Steps.{after}
 use Rattle.promises.specs.Lists.{accepted, ofTag, read, unset, dealing, complaining, stopped, unchallenged, responding, stageBy}
@@ -66,7 +67,7 @@ module _ (l : List (List ℕ)) where
     challenged m k = ne-eqb (number CH) 0 (λ e. omega (arith, made-live l p .stage .challenged m k))
 
     needed : quorum (after l .setup .t) (after l .setup .a) ≡ need
-    unfolding transcriptOf
+    unfolding transcriptOf transcript
     needed = ap₂ quorum (made-alike l p .t-same) (made-alike l p .a-same)
 
     few-responses : after l .stage ≡ 4 → responding (accepted l) ≡ true

@@ -8,7 +8,7 @@ use Rattle.field.specs.Definitions.{powered}
 use Rattle.interpolation.specs.Definitions.{slot, committedPoint, elementAt}
 use Rattle.interpolation.specs.Rows.{elementAt-cong}
 use Rattle.records.specs.Parameters.{quorum, batch}
-use Rattle.protocol.specs.Transcript.{Transcript, dealingAt, exponent, productOver, combinedAt, nonce}
+use Rattle.protocol.specs.Transcript.{Transcript, dealingAt, exponent, productOver, combinedAt, nonce, dealerFactor}
 use Rattle.protocol.specs.Products.{productOver-cong}
 
 pub record Alike (w z : Transcript) : Type 0 where
@@ -28,12 +28,15 @@ module _ (w z : Transcript) (h : Alike w z) where
       (λ v k. refl) (λ v k. h .commitment-same i v p l e k)
       ∙ ap₂ (λ (t a : ℕ). elementAt (committedPoint a) (quorum t a) (z .commitment i) x) (h .t-same) (h .a-same)
 
+  factor-same : (u : ℕ) (x : Scalar) (i : ℕ) → 0 < i → i ≤ w .n → w .qual i ≡ true → dealerFactor w u x i ≡ dealerFactor z u x i
+  unfolding dealerFactor
+  factor-same u x i p l e = ap (λ (v : Element). powered v (exponent i u)) (dealing-same i x p l e)
+
   combined-same : (u : ℕ) (x : Scalar) → combinedAt w u x ≡ combinedAt z u x
   unfolding combinedAt
   combined-same u x =
-      productOver-cong (w .n) (w .qual) (z .qual) _ (λ i. powered (dealingAt (z .t) (z .a) (z .commitment i) x) (exponent i u)) (h .qual-same)
-      (λ i p l e. ap (λ (v : Element). powered v (exponent i u)) (dealing-same i x p l e))
-      ∙ ap (λ (n : ℕ). productOver n (z .qual) (λ i. powered (dealingAt (z .t) (z .a) (z .commitment i) x) (exponent i u))) (h .n-same)
+      productOver-cong (w .n) (w .qual) (z .qual) (dealerFactor w u x) (dealerFactor z u x) (h .qual-same) (factor-same u x)
+      ∙ ap (λ (n : ℕ). productOver n (z .qual) (dealerFactor z u x)) (h .n-same)
 
   pub nonce-same : (u k : ℕ) → nonce w u k ≡ nonce z u k
   unfolding nonce

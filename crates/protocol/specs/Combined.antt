@@ -7,13 +7,13 @@ use Rattle.field.specs.declared.Element.{Element}
 use Rattle.interpolation.specs.Definitions.{committedPoint, elementAt}
 use Rattle.interpolation.specs.Products.{elementAt-combined}
 use Rattle.records.specs.Parameters.{quorum}
-use Rattle.protocol.specs.Transcript.{Transcript, dealingAt, exponent, productOver, combinedAt}
+use Rattle.protocol.specs.Transcript.{Transcript, dealingAt, exponent, productOver, combinedAt, dealerFactor}
 use Rattle.protocol.specs.Arrays.{combinedValue}
 use Rattle.protocol.specs.Products.{productOver-cong}
 
 pub combined-values : (w : Transcript) (u : ℕ) (x : Scalar)
     → combinedAt w u x ≡ elementAt (committedPoint (w .a)) (quorum (w .t) (w .a)) (combinedValue (w .n) (w .qual) (w .commitment) u) x
-unfolding combinedAt dealingAt combinedValue productOver
+unfolding combinedAt dealerFactor dealingAt combinedValue productOver
 combined-values w u x =
     elementAt-combined (committedPoint (w .a)) (quorum (w .t) (w .a)) (w .n) (λ i. w .qual (i + 1)) (λ i. w .commitment (i + 1)) (λ i. exponent (i + 1) u) x
 

@@ -16,7 +16,7 @@ use Rattle.interpolation.specs.Exponentials.{Exponential, exponential-wider, ex
 use Rattle.interpolation.specs.Rows.{elementAt-cong}
 use Rattle.records.specs.Parameters.{quorum}
 use Rattle.records.specs.Laws.{Bounds, quorum-is}
-use Rattle.protocol.specs.Transcript.{Transcript, dealingAt, keyAt, exponent, productOver, combinedAt, nonce, challengeAt, responseAt}
+use Rattle.protocol.specs.Transcript.{Transcript, dealingAt, keyAt, exponent, productOver, combinedAt, nonce, challengeAt, responseAt, dealerFactor}
 
 -- what a run at stage 4 keeps: parameters within the bounds, a key and commitments of QUAL that are elements
 pub record Sound (w : Transcript) : Type 0 where
@@ -26,7 +26,7 @@ pub record Sound (w : Transcript) : Type 0 where
 
 module _ (w : Transcript) (u : ℕ) (s : Sound w) where
   combined-exponential : Exponential (quorum (w .t) (w .a)) (combinedAt w u)
-  unfolding combinedAt productOver dealingAt
+  unfolding combinedAt productOver dealerFactor dealingAt
   combined-exponential =
       exponential-fold (w .n) _ (λ i l. exponential-pick (w .qual (i + 1)) (λ e.
       exponential-powered

@@ -43,9 +43,13 @@ unfoldable pub productOver : ℕ → (ℕ → Bool) → (ℕ → Element) → El
 productOver n set f = fold product identity n (λ i. pick (set (i + 1)) (f (i + 1)) identity)
 
 module _ (w : Transcript) where
-  -- C_u(x): the product over QUAL of C_i(x)^(i^(u-1)), i being the dealer's number
+  -- dealer i's factor of C_u(x): C_i(x)^(i^(u-1)), i being the dealer's number
+  unfoldable pub dealerFactor : ℕ → Scalar → ℕ → Element
+  dealerFactor u x i = powered (dealingAt (w .t) (w .a) (w .commitment i) x) (exponent i u)
+
+  -- C_u(x): the product over QUAL of the dealers' factors
   unfoldable pub combinedAt : ℕ → Scalar → Element
-  combinedAt u x = productOver (w .n) (w .qual) (λ i. powered (dealingAt (w .t) (w .a) (w .commitment i) x) (exponent i u))
+  combinedAt u x = productOver (w .n) (w .qual) (dealerFactor u x)
 
   -- R(u,k)
   unfoldable pub nonce : ℕ → ℕ → Element

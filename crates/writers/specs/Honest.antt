@@ -13,7 +13,7 @@ use Rattle.field.specs.Definitions.{scalar, identity, generator, plus, times, p
 use Rattle.field.specs.ScalarLaws.{times-comm}
 use Rattle.field.specs.ElementLaws.{generator-element, raise-element, raise-zero, raise-plus, raise-times, same-is, is-same}
 use Rattle.interpolation.specs.Definitions.{party}
-use Rattle.protocol.specs.Transcript.{Transcript, dealingAt, validShare, coefficient, exponent, keyAt, productOver, combinedAt, challengeAt, responseAt, passes}
+use Rattle.protocol.specs.Transcript.{Transcript, dealingAt, validShare, coefficient, exponent, keyAt, productOver, combinedAt, challengeAt, responseAt, passes, dealerFactor}
 use Rattle.protocol.specs.Products.{raise-coefficient}
 use Rattle.writers.specs.Writers.{combinedShare}
 
@@ -32,7 +32,7 @@ module _ (w : Transcript) (j : ℕ) (shares : List ℕ) where
 
   -- 4^H_u(j) = C_u(j)
   combined-is : RightShares → (u : ℕ) → raise generator (combinedShare (w .n) (w .qual) shares u) ≡ combinedAt w u (party j)
-  unfolding combinedShare combinedAt productOver
+  unfolding combinedShare combinedAt productOver dealerFactor
   combined-is right u =
       fold-hom plus (scalar 0) product identity (raise generator) (raise-zero generator) (raise-plus generator generator-element) (w .n) (λ i. part i (w .qual (i + 1)))
       ∙ fold-cong product identity (w .n) (λ i l. go i l (w .qual (i + 1)) (λ e. e))
@@ -41,7 +41,7 @@ module _ (w : Transcript) (j : ℕ) (shares : List ℕ) where
       part i b = pick b (times (coefficient (i + 1) u) (scalar (getD shares i 0))) (scalar 0)
 
       go : (i : ℕ) → i < w .n → (b : Bool) → (b ≡ true → w .qual (i + 1) ≡ true)
-          → raise generator (part i b) ≡ pick b (powered (dealingAt (w .t) (w .a) (w .commitment (i + 1)) (party j)) (exponent (i + 1) u)) identity
+          → raise generator (part i b) ≡ pick b (dealerFactor w u (party j) (i + 1)) identity
       go i l true e =
           let place : i + 1 - 1 ≡ i = omega arith in
           power-times (coefficient (i + 1) u) (scalar (getD shares i 0))
