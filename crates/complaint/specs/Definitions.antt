@@ -10,7 +10,7 @@ use Rattle.lists.specs.Tests.{pick, allTo, require, orNext}
 use Rattle.lists.specs.Stores.{filled}
 use Rattle.sets.specs.Masks.{has, insert, minus, count}
 use Rattle.records.specs.Bytes.{numberAt, sender}
-use Rattle.records.specs.Refusals.{complaintRefusal}
+use Rattle.refusals.specs.Refusals.{complaintRefusal}
 use Rattle.dealing.specs.declared.Setup.{Setup}
 use Rattle.dealing.specs.declared.Dealings.{Dealings}
 use Rattle.dealing.specs.Definitions.{mayBlame}

@@ -70,7 +70,7 @@ impl Complaints {
     pub fn number(self, setup: Setup, dealings: Dealings, bytes: &[u8]) -> u8
         ensures { λ r. ⌜ r ≡ complaintNumber setup dealings self (now (bytes .entry)) ⌝ }
     {
-        let number = records::complaint_refusal(setup.n, bytes);
+        let number = refusals::complaint_refusal(setup.n, bytes);
         if number != 0 {
             return number;
         }

@@ -13,9 +13,9 @@ use Rattle.interpolation.specs.Rows.{elementAt-cong}
 use Rattle.interpolation.specs.Laws.{scalarAt-range, raise-scalarAt}
 use Rattle.records.specs.Parameters.{quorum}
 use Rattle.records.specs.Bytes.{byteAt, numberAt, word}
-use Rattle.records.specs.Tags.{setupLength, dealingLength}
-use Rattle.records.specs.Refusals.{setupRefusal, sharesFrom, dealingRefusal}
-use Rattle.records.specs.Laws.{setup-passes, dealing-passes}
+use Rattle.records.specs.Tags.{setupLength, dealingLength, sharesFrom}
+use Rattle.refusals.specs.Refusals.{setupRefusal, dealingRefusal}
+use Rattle.refusals.specs.RefusalLaws.{setup-passes, dealing-passes}
 use Rattle.encoding.specs.Bytes.{four, fours, powerOfFour}
 use Rattle.encoding.specs.ByteLaws.{power-lt, power-element, length-fours, word-fours, word-last, number-at}
 use Rattle.protocol.specs.Transcript.{dealingAt, validShare}

@@ -16,7 +16,7 @@ use Rattle.interpolation.specs.Rows.{listed, productOf, basisOf, weightsBy}
 use Rattle.interpolation.specs.Bases.{weights-by}
 use Rattle.records.specs.Parameters.{inBounds, quorum}
 use Rattle.records.specs.Bytes.{word}
-use Rattle.records.specs.Refusals.{sharesFrom}
+use Rattle.records.specs.Tags.{sharesFrom}
 use Rattle.records.specs.Laws.{bounds-of, quorum-max}
 use Rattle.protocol.specs.Transcript.{dealingAt, validShare}
 use Rattle.protocol.specs.Arrays.{elements}

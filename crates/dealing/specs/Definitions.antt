@@ -10,7 +10,8 @@ use Rattle.field.specs.declared.Element.{Element}
 use Rattle.field.specs.Definitions.{scalar, element, identity}
 use Rattle.records.specs.Parameters.{quorum}
 use Rattle.records.specs.Bytes.{byteAt, word, sender}
-use Rattle.records.specs.Refusals.{sharesFrom, dealingRefusal}
+use Rattle.records.specs.Tags.{sharesFrom}
+use Rattle.refusals.specs.Refusals.{dealingRefusal}
 use Rattle.protocol.specs.Transcript.{validShare}
 use Rattle.protocol.specs.Arrays.{base}
 use Rattle.dealing.specs.declared.Setup.{Setup}

@@ -168,7 +168,7 @@ impl Dealings {
     pub fn number(self, setup: Setup, bytes: &[u8]) -> u8
         ensures { λ r. ⌜ r ≡ dealingNumber setup self (now (bytes .entry)) ⌝ }
     {
-        let number = records::dealing_refusal(setup.n, setup.t, setup.a, bytes);
+        let number = refusals::dealing_refusal(setup.n, setup.t, setup.a, bytes);
         if number != 0 {
             return number;
         }

@@ -15,7 +15,7 @@ use borrow.Author.Tests.{eqb-true, eqb-false, le-leb, lt-leb, lt-ltb, ne-eqb}
 use Rattle.lists.specs.Tests.{pick, pick-case, require-false, orNext}
 use Rattle.records.specs.Bytes.{byteAt}
 use Rattle.records.specs.Tags.{Tag, SU, DE, VE, CH, RE, unknown, code, tagOf, setupLength, dealingLength, complaintLength, challengesLength, responseLength}
-use Rattle.records.specs.Refusals.{setupRefusal, dealingRefusal, complaintRefusal, challengesRefusal, responseRefusal}
+use Rattle.refusals.specs.Refusals.{setupRefusal, dealingRefusal, complaintRefusal, challengesRefusal, responseRefusal}
 use Rattle.dealing.specs.Definitions.{dealingNumber}
 use Rattle.complaint.specs.Definitions.{complaintNumber}
 use Rattle.response.specs.Definitions.{responseNumber}

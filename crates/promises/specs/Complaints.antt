@@ -14,9 +14,9 @@ use Rattle.sets.specs.Masks.{has, maskOf}
 use Rattle.sets.specs.MaskLaws.{has-none, has-maskOf, has-above, has-le, maskOf-lt}
 use Rattle.field.specs.Definitions.{scalar, element}
 use Rattle.records.specs.Bytes.{numberAt, word, sender}
-use Rattle.records.specs.Tags.{Tag, SU, DE, VE, CH, RE, unknown, tagOf}
-use Rattle.records.specs.Refusals.{sharesFrom, setupRefusal, dealingRefusal, complaintRefusal, challengesRefusal, responseRefusal}
-use Rattle.records.specs.Laws.{complaint-passed}
+use Rattle.records.specs.Tags.{Tag, SU, DE, VE, CH, RE, unknown, tagOf, sharesFrom}
+use Rattle.refusals.specs.Refusals.{setupRefusal, dealingRefusal, complaintRefusal, challengesRefusal, responseRefusal}
+use Rattle.refusals.specs.RefusalLaws.{complaint-passed}
 use Rattle.protocol.specs.Transcript.{validShare}
 use Rattle.run.specs.declared.Run.{Run}
 use Rattle.run.specs.Runs.{stageOf, transcriptOf}

@@ -17,8 +17,9 @@ use Rattle.protocol.specs.Transcript.{Transcript, passes}
 use Rattle.records.specs.Parameters.{quorum, batch}
 use Rattle.records.specs.Bytes.{byteAt, numberAt, word, sender}
 use Rattle.records.specs.Tags.{Tag, SU, DE, VE, CH, RE}
-use Rattle.records.specs.Refusals.{setupRefusal, dealingRefusal}
-use Rattle.records.specs.Laws.{Bounds, key-max, setup-passed, dealing-passed}
+use Rattle.refusals.specs.Refusals.{setupRefusal, dealingRefusal}
+use Rattle.records.specs.Laws.{Bounds, key-max}
+use Rattle.refusals.specs.RefusalLaws.{setup-passed, dealing-passed}
 use Rattle.dealing.specs.declared.Setup.{Setup}
 use Rattle.dealing.specs.declared.Dealings.{Dealings}
 use Rattle.complaint.specs.declared.Complaints.{Complaints}

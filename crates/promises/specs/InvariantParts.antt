@@ -16,8 +16,9 @@ use Rattle.sets.specs.MaskLaws.{has-insert, has-above}
 use Rattle.field.specs.Definitions.{scalar, element, identity}
 use Rattle.records.specs.Parameters.{quorum, batch}
 use Rattle.records.specs.Bytes.{numberAt, sender}
-use Rattle.records.specs.Refusals.{dealingRefusal}
-use Rattle.records.specs.Laws.{Bounds, quorum-max, batch-max, dealing-passed, complaint-passed, response-passed}
+use Rattle.refusals.specs.Refusals.{dealingRefusal}
+use Rattle.records.specs.Laws.{Bounds, quorum-max, batch-max}
+use Rattle.refusals.specs.RefusalLaws.{dealing-passed, complaint-passed, response-passed}
 use Rattle.dealing.specs.declared.Setup.{Setup}
 use Rattle.dealing.specs.declared.Dealings.{Dealings}
 use Rattle.complaint.specs.declared.Complaints.{Complaints}

@@ -15,8 +15,9 @@ use Rattle.field.specs.Definitions.{scalar}
 use Rattle.records.specs.Parameters.{quorum}
 use Rattle.records.specs.Bytes.{byteAt, numberAt, word}
 use Rattle.records.specs.Tags.{Tag, SU, DE, VE, CH, RE, unknown, tagOf}
-use Rattle.records.specs.Refusals.{setupRefusal, challengesRefusal}
-use Rattle.records.specs.Laws.{setup-passed, cells-max, quorum-pos}
+use Rattle.refusals.specs.Refusals.{setupRefusal, challengesRefusal}
+use Rattle.refusals.specs.RefusalLaws.{setup-passed}
+use Rattle.records.specs.Laws.{cells-max, quorum-pos}
 use Rattle.dealing.specs.declared.Setup.{Setup}
 use Rattle.dealing.specs.declared.Dealings.{Dealings}
 use Rattle.complaint.specs.declared.Complaints.{Complaints}

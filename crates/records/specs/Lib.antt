@@ -1,5 +1,4 @@
 pub mod Parameters
 pub mod Bytes
 pub mod Tags
-pub mod Refusals
 pub mod Laws

@@ -55,3 +55,7 @@ challengesLength n t a = 4 + 4 * (a * batch n t)
 
 unfoldable pub responseLength : ℕ → ℕ → ℕ
 responseLength n t = 4 + 4 * batch n t
+
+-- where the shares of a dealing begin
+unfoldable pub sharesFrom : ℕ → ℕ → ℕ
+sharesFrom t a = 4 + 4 * quorum t a

@@ -11,7 +11,7 @@ use Rattle.field.specs.Definitions.{scalar}
 use Rattle.interpolation.specs.Definitions.{party, slot, scalarAt}
 use Rattle.records.specs.Parameters.{batch}
 use Rattle.records.specs.Bytes.{word, sender}
-use Rattle.records.specs.Refusals.{responseRefusal}
+use Rattle.refusals.specs.Refusals.{responseRefusal}
 use Rattle.protocol.specs.Transcript.{Transcript, passes}
 use Rattle.protocol.specs.Arrays.{base, commitmentIn, challengeIn}
 use Rattle.dealing.specs.declared.Setup.{Setup}

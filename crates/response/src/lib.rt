@@ -129,7 +129,7 @@ impl Responses {
         requires { ⌜ inBounds (setup .n) (setup .t) (setup .a) ≡ true ⌝ }
         ensures { λ r. ⌜ r ≡ responseNumber setup dealings complaints challenges self (now (bytes .entry)) ⌝ }
     {
-        let number = records::response_refusal(setup.n, setup.t, bytes);
+        let number = refusals::response_refusal(setup.n, setup.t, bytes);
         if number != 0 {
             return number;
         }

@@ -11,8 +11,9 @@ use Rattle.sets.specs.Masks.{has, count}
 use Rattle.records.specs.Parameters.{mostParties, quorum}
 use Rattle.records.specs.Bytes.{byteAt}
 use Rattle.records.specs.Tags.{Tag, SU, DE, VE, CH, RE, unknown, tagOf}
-use Rattle.records.specs.Refusals.{setupRefusal, challengesRefusal}
-use Rattle.records.specs.Laws.{Bounds, setup-passed, quorum-pos}
+use Rattle.refusals.specs.Refusals.{setupRefusal, challengesRefusal}
+use Rattle.records.specs.Laws.{Bounds, quorum-pos}
+use Rattle.refusals.specs.RefusalLaws.{setup-passed}
 use Rattle.run.specs.declared.Run.{Run}
 use Rattle.run.specs.declared.Reply.{Reply}
 use Rattle.dealing.specs.Definitions.{noSetup, noDealings, setupOf, withDealing, dealingNumber}

@@ -6,7 +6,7 @@ use Prim.Native.Nat.{ℕ}
 use lib.Dec.{eqb}
 use Rattle.lists.specs.Tests.{pick}
 use Rattle.records.specs.Tags.{tagOf}
-use Rattle.records.specs.Refusals.{setupRefusal, challengesRefusal}
+use Rattle.refusals.specs.Refusals.{setupRefusal, challengesRefusal}
 use Rattle.dealing.specs.Definitions.{dealingNumber}
 use Rattle.complaint.specs.Definitions.{complaintNumber}
 use Rattle.response.specs.Definitions.{responseNumber}

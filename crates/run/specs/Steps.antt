@@ -8,7 +8,7 @@ use Rattle.field.specs.Definitions.{scalar}
 use Rattle.records.specs.Parameters.{quorum, batch}
 use Rattle.records.specs.Bytes.{word}
 use Rattle.records.specs.Tags.{Tag, SU, DE, VE, CH, RE, unknown, tagOf}
-use Rattle.records.specs.Refusals.{setupRefusal, challengesRefusal}
+use Rattle.refusals.specs.Refusals.{setupRefusal, challengesRefusal}
 use Rattle.dealing.specs.Definitions.{setupOf, dealingNumber, withDealing}
 use Rattle.complaint.specs.Definitions.{complaintNumber, withComplaint, complaintStage}
 use Rattle.response.specs.Definitions.{responseNumber, withResponse, signaturesOf}

@@ -4,7 +4,7 @@ ghost use mathlib.Core.Bool.{true};
 ghost use Prim.Native.Nat.{_+_, _*_};
 ghost use Rattle.records.specs.Parameters.{inBounds};
 ghost use Rattle.records.specs.Tags.{decoded};
-ghost use Rattle.records.specs.Refusals.{setupRefusal, challengesRefusal};
+ghost use Rattle.refusals.specs.Refusals.{setupRefusal, challengesRefusal};
 ghost use Rattle.dealing.specs.Definitions.{dealingNumber};
 ghost use Rattle.complaint.specs.Definitions.{complaintNumber};
 ghost use Rattle.response.specs.Definitions.{responseNumber};
@@ -159,7 +159,7 @@ impl Run {
     fn take_setup(self, bytes: &[u8]) -> Reply
         ensures { λ r. ⌜ r ≡ answered self (setupRefusal (now (bytes .entry))) (afterSetup (now (bytes .entry))) ⌝ }
     {
-        let number = records::setup_refusal(bytes);
+        let number = refusals::setup_refusal(bytes);
         if number != 0 {
             return self.answer(number);
         }
@@ -227,7 +227,7 @@ impl Run {
         requires { ⌜ wellFormed self ≡ true ⌝ }
         ensures { λ r. ⌜ r ≡ answered self (challengesRefusal (self .setup .n) (self .setup .t) (self .setup .a) (now (bytes .entry))) (afterChallenges self (now (bytes .entry))) ⌝ }
     {
-        let number = records::challenges_refusal(self.setup.n, self.setup.t, self.setup.a, bytes);
+        let number = refusals::challenges_refusal(self.setup.n, self.setup.t, self.setup.a, bytes);
         if number != 0 {
             return self.answer(number);
         }

@@ -15,7 +15,7 @@ use Rattle.interpolation.specs.Definitions.{party}
 use Rattle.records.specs.Parameters.{batch}
 use Rattle.records.specs.Bytes.{byteAt, numberAt, word}
 use Rattle.records.specs.Tags.{tagOf, complaintLength, responseLength}
-use Rattle.records.specs.Laws.{complaint-passes, response-passes}
+use Rattle.refusals.specs.RefusalLaws.{complaint-passes, response-passes}
 use Rattle.encoding.specs.ByteLaws.{length-fours, word-last, number-at}
 use Rattle.protocol.specs.Transcript.{keyAt}
 use Rattle.dealer.specs.Dealt.{setupRefused, setupBytes, dealingRefused, dealingBytes}

@@ -15,8 +15,7 @@ use Rattle.protocol.specs.Arrays.{cell}
 use Rattle.run.specs.declared.Run.{Run}
 use Rattle.run.specs.Runs.{stageOf, kept}
 use Rattle.run.specs.RunLaws.{formed-of, stage-live}
-use Rattle.answers.specs.Answers.{inBatch}
-use Rattle.answers.specs.Answers.{signatureOf}
+use Rattle.answers.specs.Answers.{inBatch, signatureOf}
 use Rattle.answers.proofs.signature_at.Statement.{statement}
 use Rattle.answers.proofs.signature_at.Tie as tie
 

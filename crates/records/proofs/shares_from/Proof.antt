@@ -2,7 +2,7 @@
 use borrow.Author.Needs.{needs}
 use native.Mathlib.Omega.{arith}
 use Rattle.records.specs.Parameters.{quorum}
-use Rattle.records.specs.Refusals.{sharesFrom}
+use Rattle.records.specs.Tags.{sharesFrom}
 use Rattle.records.proofs.shares_from.Statement.{statement}
 use Rattle.records.proofs.shares_from.Tie as tie
 

@@ -7,7 +7,7 @@ use Prim.Native.Nat.{ℕ}
 use Rattle.lists.specs.Tests.{require, require-true, require-false, orNext}
 use Rattle.sets.specs.Masks.{has}
 use Rattle.records.specs.Bytes.{sender}
-use Rattle.records.specs.Refusals.{responseRefusal}
+use Rattle.refusals.specs.Refusals.{responseRefusal}
 use Rattle.response.specs.Definitions.{responseNumber}
 use Rattle.lists.specs.Calls.{itself, sent}
 use Rattle.response.proofs.Responses.number.Statement.{statement}

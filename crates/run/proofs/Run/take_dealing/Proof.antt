@@ -7,7 +7,8 @@ use mathlib.Core.Path.{_≡_, ap, ap₂, sym, _∙_}
 use Prim.Native.Nat.{ℕ, _+_, _-_}
 use lib.Dec.{eqb}
 use Rattle.lists.specs.Tests.{pick, or-next}
-use Rattle.records.specs.Laws.{bounds-test, dealing-passed}
+use Rattle.records.specs.Laws.{bounds-test}
+use Rattle.refusals.specs.RefusalLaws.{dealing-passed}
 use Rattle.dealing.specs.declared.Dealings.{Dealings}
 use Rattle.dealing.specs.Definitions.{dealingNumber, withDealing}
 use Rattle.run.specs.Steps.{afterDealing}

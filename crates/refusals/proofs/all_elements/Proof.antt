@@ -1,15 +1,15 @@
--- `all_scalars` meets its contract. Every number below i is of the kind. Assumes nothing.
+-- `all_elements` meets its contract. Every number below i is of the kind. Assumes nothing.
 use borrow.Author.Needs.{needs}
 use native.Mathlib.Omega.{arith}
 use Prim.Native.Nat.{_-_}
-use Rattle.field.specs.Definitions.{isScalar}
+use Rattle.field.specs.Definitions.{isElement}
 use Rattle.records.specs.Bytes.{word}
 use Rattle.lists.specs.Calls.{Asked, asked-none, asked-more, asked-fails, asked-all}
-use Rattle.records.proofs.all_scalars.Statement.{statement}
-use Rattle.records.proofs.all_scalars.Tie as tie
+use Rattle.refusals.proofs.all_elements.Statement.{statement}
+use Rattle.refusals.proofs.all_elements.Tie as tie
 
 abbrev Inv-loop : tie.InvT-loop
-Inv-loop s at count i₀ i = Asked (λ k. isScalar (word s at k)) count i
+Inv-loop s at count i₀ i = Asked (λ k. isElement (word s at k)) count i
 
 abbrev μ-loop : tie.MeasureT-loop
 μ-loop s at count i₀ i = count - i
@@ -40,8 +40,8 @@ loop-again c =
 returns-2 : tie.Need-returns-2 Inv-loop μ-loop
 returns-2 c = asked-all _ _ _ (c .before .loop .inv) (omega arith)
 
-pub all-scalars-spec : {M : Type 1} → statement M
-all-scalars-spec =
+pub all-elements-spec : {M : Type 1} → statement M
+all-elements-spec =
     tie.close
     (tie.spec
     Inv-loop

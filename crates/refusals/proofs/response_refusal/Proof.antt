@@ -2,10 +2,10 @@
 use mathlib.Core.Path.{refl, sym}
 use borrow.Author.Needs.{needs}
 use Rattle.lists.specs.Tests.{Left, left, refused}
-use Rattle.records.specs.Refusals.{responseRefusal}
+use Rattle.refusals.specs.Refusals.{responseRefusal}
 use Rattle.lists.specs.Calls.{holds, fails, equals, differs, is, is-not}
-use Rattle.records.proofs.response_refusal.Statement.{statement}
-use Rattle.records.proofs.response_refusal.Tie as tie
+use Rattle.refusals.proofs.response_refusal.Statement.{statement}
+use Rattle.refusals.proofs.response_refusal.Tie as tie
 
 response-length-requires : tie.Need-response-length-requires
 response-length-requires c κs = search needs

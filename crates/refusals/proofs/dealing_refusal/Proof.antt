@@ -2,10 +2,10 @@
 use mathlib.Core.Path.{refl, sym}
 use borrow.Author.Needs.{needs}
 use Rattle.lists.specs.Tests.{Left, left, refused}
-use Rattle.records.specs.Refusals.{dealingRefusal}
+use Rattle.refusals.specs.Refusals.{dealingRefusal}
 use Rattle.lists.specs.Calls.{holds, fails, equals, differs, is, is-not}
-use Rattle.records.proofs.dealing_refusal.Statement.{statement}
-use Rattle.records.proofs.dealing_refusal.Tie as tie
+use Rattle.refusals.proofs.dealing_refusal.Statement.{statement}
+use Rattle.refusals.proofs.dealing_refusal.Tie as tie
 
 dealing-length-requires : tie.Need-dealing-length-requires
 dealing-length-requires c κs = search needs

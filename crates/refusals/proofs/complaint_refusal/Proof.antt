@@ -2,10 +2,10 @@
 use mathlib.Core.Path.{refl, sym}
 use borrow.Author.Needs.{needs}
 use Rattle.lists.specs.Tests.{Left, left, refused}
-use Rattle.records.specs.Refusals.{complaintRefusal}
+use Rattle.refusals.specs.Refusals.{complaintRefusal}
 use Rattle.lists.specs.Calls.{holds, fails, equals, differs, is, is-not}
-use Rattle.records.proofs.complaint_refusal.Statement.{statement}
-use Rattle.records.proofs.complaint_refusal.Tie as tie
+use Rattle.refusals.proofs.complaint_refusal.Statement.{statement}
+use Rattle.refusals.proofs.complaint_refusal.Tie as tie
 
 complaint-length-requires : tie.Need-complaint-length-requires
 complaint-length-requires c κs = search needs

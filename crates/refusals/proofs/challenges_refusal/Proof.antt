@@ -4,11 +4,11 @@ use mathlib.Core.Bool.{and-false}
 use borrow.Author.Needs.{needs}
 use native.Mathlib.Omega.{arith}
 use Rattle.lists.specs.Tests.{Left, left, refused}
-use Rattle.records.specs.Refusals.{challengesRefusal}
+use Rattle.refusals.specs.Refusals.{challengesRefusal}
 use Rattle.lists.specs.Calls.{holds, fails, equals, differs, is, is-not}
-use Rattle.records.proofs.Products.{byte-product}
-use Rattle.records.proofs.challenges_refusal.Statement.{statement}
-use Rattle.records.proofs.challenges_refusal.Tie as tie
+use Rattle.records.specs.Laws.{byte-product}
+use Rattle.refusals.proofs.challenges_refusal.Statement.{statement}
+use Rattle.refusals.proofs.challenges_refusal.Tie as tie
 
 challenges-length-requires : tie.Need-challenges-length-requires
 challenges-length-requires c κs = search needs

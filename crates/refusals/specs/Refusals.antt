@@ -7,9 +7,9 @@ use lib.ListN.{length}
 use lib.Dec.{eqb, ltb, leb}
 use Rattle.lists.specs.Tests.{allTo, require}
 use Rattle.field.specs.Definitions.{isScalar, isElement}
 use Rattle.records.specs.Parameters.{inBounds, quorum, batch, isParty}
 use Rattle.records.specs.Bytes.{byteAt, numberAt, word, sender}
-use Rattle.records.specs.Tags.{setupLength, dealingLength, complaintLength, challengesLength, responseLength}
+use Rattle.records.specs.Tags.{setupLength, dealingLength, complaintLength, challengesLength, responseLength, sharesFrom}
 
 -- SU: n, t, a, reserved; S, S_1 to S_t
 unfoldable pub setupRefusal : List ℕ → ℕ
@@ -18,10 +18,6 @@ setupRefusal s =
     (require (eqb (byteAt s 5) 0) 3
     (require (inBounds (byteAt s 2) (byteAt s 3) (byteAt s 4)) 4
     (require (allTo (byteAt s 3 + 1) (λ j. isElement (word s 6 j))) 7 0)))
-
--- where the shares of a dealing begin
-unfoldable pub sharesFrom : ℕ → ℕ → ℕ
-sharesFrom t a = 4 + 4 * quorum t a
 
 -- DE: dealer, reserved; the committed values; n shares
 unfoldable pub dealingRefusal : ℕ → ℕ → ℕ → List ℕ → ℕ

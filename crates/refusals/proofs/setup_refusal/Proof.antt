@@ -4,10 +4,10 @@ use mathlib.Core.Bool.{and-false}
 use borrow.Author.Needs.{needs}
 use borrow.Author.Tests.{le-leb, lt-leb}
 use Rattle.lists.specs.Tests.{Left, left, refused}
-use Rattle.records.specs.Refusals.{setupRefusal}
+use Rattle.refusals.specs.Refusals.{setupRefusal}
 use Rattle.lists.specs.Calls.{holds, fails, equals, differs, is, is-not}
-use Rattle.records.proofs.setup_refusal.Statement.{statement}
-use Rattle.records.proofs.setup_refusal.Tie as tie
+use Rattle.refusals.proofs.setup_refusal.Statement.{statement}
+use Rattle.refusals.proofs.setup_refusal.Tie as tie
 
 returns : tie.Need-returns
 unfolding setupRefusal

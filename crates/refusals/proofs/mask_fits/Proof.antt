@@ -7,9 +7,9 @@ use mathlib.Core.Path.{sym, ap, _∙_}
 use Prim.Native.Nat.{_^_, _<_}
 use lib.Dec.{ltb}
 use lib.Pow.{pow-mono, shl-exact}
-use Rattle.records.specs.Refusals.{maskFits}
-use Rattle.records.proofs.mask_fits.Statement.{statement}
-use Rattle.records.proofs.mask_fits.Tie as tie
+use Rattle.refusals.specs.Refusals.{maskFits}
+use Rattle.refusals.proofs.mask_fits.Statement.{statement}
+use Rattle.refusals.proofs.mask_fits.Tie as tie
 
 returns : tie.Need-returns
 unfolding maskFits

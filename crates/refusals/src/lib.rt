@@ -1,0 +1,145 @@
+// What is refused of a record from the input alone: refusals 2 to 8.
+ghost use mathlib.Core.Path.{_≡_};
+ghost use Rattle.lists.specs.Tests.{allTo};
+ghost use Rattle.field.specs.Definitions.{isScalar, isElement};
+ghost use Rattle.records.specs.Parameters.{quorum, batch};
+ghost use Rattle.records.specs.Bytes.{word};
+ghost use Rattle.refusals.specs.Refusals.{maskFits, setupRefusal, dealingRefusal, complaintRefusal, challengesRefusal, responseRefusal};
+use field::Element;
+use field::Scalar;
+
+// Whether the count numbers from a place on are all elements.
+pub fn all_elements(s: &[u8], at: u16, count: u16) -> bool
+    ensures { λ r. ⌜ r ≡ allTo count (λ i. isElement (word (now (s .entry)) at i)) ⌝ }
+{
+    for i in 0..count {
+        if !Element::accepts(records::word(s, at, i)) {
+            return false;
+        }
+    }
+    true
+}
+
+// Whether they are all scalars.
+pub fn all_scalars(s: &[u8], at: u16, count: u16) -> bool
+    ensures { λ r. ⌜ r ≡ allTo count (λ i. isScalar (word (now (s .entry)) at i)) ⌝ }
+{
+    for i in 0..count {
+        if !Scalar::accepts(records::word(s, at, i)) {
+            return false;
+        }
+    }
+    true
+}
+
+// Whether a mask has no bit above bit n - 1.
+pub fn mask_fits(n: u8, mask: u32) -> bool
+    ensures { λ r. ⌜ r ≡ maskFits n mask ⌝ }
+{
+    if 31 < n {
+        return true;
+    }
+    (mask as u64) < (1u64 << n)
+}
+
+// The refusal of a setup, or 0.
+pub fn setup_refusal(s: &[u8]) -> u8
+    ensures { λ r. ⌜ r ≡ setupRefusal (now (s .entry)) ⌝ }
+{
+    if s.len() < 6 {
+        return 2;
+    }
+    let t = records::byte(s, 3);
+    if s.len() != records::setup_length(t) {
+        return 2;
+    }
+    if records::byte(s, 5) != 0 {
+        return 3;
+    }
+    if !records::in_bounds(records::byte(s, 2), t, records::byte(s, 4)) {
+        return 4;
+    }
+    if !all_elements(s, 6, t as u16 + 1) {
+        return 7;
+    }
+    0
+}
+
+// The refusal of a dealing from its bytes and the parameters, or 0.
+pub fn dealing_refusal(n: u8, t: u8, a: u8, s: &[u8]) -> u8
+    ensures { λ r. ⌜ r ≡ dealingRefusal n t a (now (s .entry)) ⌝ }
+{
+    if s.len() != records::dealing_length(n, t, a) {
+        return 2;
+    }
+    if records::byte(s, 3) != 0 {
+        return 3;
+    }
+    if !records::is_party(n, records::byte(s, 2)) {
+        return 5;
+    }
+    if !all_elements(s, 4, records::quorum(t, a)) {
+        return 7;
+    }
+    if !all_scalars(s, records::shares_from(t, a), n as u16) {
+        return 6;
+    }
+    0
+}
+
+// The refusal of a complaint row, or 0.
+pub fn complaint_refusal(n: u8, s: &[u8]) -> u8
+    ensures { λ r. ⌜ r ≡ complaintRefusal n (now (s .entry)) ⌝ }
+{
+    if s.len() != records::complaint_length(n) {
+        return 2;
+    }
+    if records::byte(s, 3) != 0 {
+        return 3;
+    }
+    if !records::is_party(n, records::byte(s, 2)) {
+        return 5;
+    }
+    if !mask_fits(n, records::number(s, 4)) {
+        return 8;
+    }
+    0
+}
+
+// The refusal of challenges, or 0.
+pub fn challenges_refusal(n: u8, t: u8, a: u8, s: &[u8]) -> u8
+    ensures { λ r. ⌜ r ≡ challengesRefusal n t a (now (s .entry)) ⌝ }
+{
+    if s.len() != records::challenges_length(n, t, a) {
+        return 2;
+    }
+    if records::byte(s, 2) != 0 {
+        return 3;
+    }
+    if records::byte(s, 3) != 0 {
+        return 3;
+    }
+    if !all_scalars(s, 4, a as u16 * records::batch(n, t) as u16) {
+        return 6;
+    }
+    0
+}
+
+// The refusal of a response row, or 0.
+pub fn response_refusal(n: u8, t: u8, s: &[u8]) -> u8
+    ensures { λ r. ⌜ r ≡ responseRefusal n t (now (s .entry)) ⌝ }
+{
+    if s.len() != records::response_length(n, t) {
+        return 2;
+    }
+    if records::byte(s, 3) != 0 {
+        return 3;
+    }
+    if !records::is_party(n, records::byte(s, 2)) {
+        return 5;
+    }
+    if !all_scalars(s, 4, records::batch(n, t) as u16) {
+        return 6;
+    }
+    0
+}
