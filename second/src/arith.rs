@@ -21,19 +21,38 @@ fn times(x: u32, y: u32, modulus: u32) -> u32 {
     (u64::from(x) * u64::from(y) % u64::from(modulus)) as u32
 }
 
-/// A power by square and multiply, lowest bit of the exponent first.
+/// A power by the digits of the exponent in base 16, the highest first, from a
+/// table of the base's first sixteen powers.
 fn power(base: u32, exponent: u32, modulus: u32) -> u32 {
-    let mut result = 1;
-    let mut square = base % modulus;
-    let mut left = exponent;
-    while left > 0 {
-        if left % 2 == 1 {
-            result = times(result, square, modulus);
-        }
-        square = times(square, square, modulus);
-        left /= 2;
+    let mut table = [1 % modulus; 16];
+    for digit in 1..16 {
+        table[digit] = times(table[digit - 1], base % modulus, modulus);
     }
-    result
+    (0..8).rev().fold(1 % modulus, |result, place| {
+        let raised = (0..4).fold(result, |value, _| times(value, value, modulus));
+        times(raised, table[(exponent >> (4 * place) & 15) as usize], modulus)
+    })
+}
+
+/// Whether a number from 1 to P-1 is a square modulo P, by the law of quadratic
+/// reciprocity. As q is (P-1)/2, the squares are the numbers V with V^q = 1.
+fn is_square(number: u32) -> bool {
+    let (mut upper, mut lower) = (number, P);
+    let mut square = true;
+    while upper != 0 {
+        while upper % 2 == 0 {
+            upper /= 2;
+            if matches!(lower % 8, 3 | 5) {
+                square = !square;
+            }
+        }
+        (upper, lower) = (lower, upper);
+        if upper % 4 == 3 && lower % 4 == 3 {
+            square = !square;
+        }
+        upper %= lower;
+    }
+    square
 }
 
 impl Scalar {
@@ -101,7 +120,7 @@ impl Element {
     /// The element written as this number; none if the number is not in the group.
     pub fn read(number: u32) -> Option<Element> {
         let in_range = (1..P).contains(&number);
-        (in_range && power(number, Q, P) == 1).then_some(Element(number))
+        (in_range && is_square(number)).then_some(Element(number))
     }
 
     /// 4 to the given scalar.
@@ -122,5 +141,31 @@ impl Mul for Element {
     type Output = Element;
     fn mul(self, other: Element) -> Element {
         Element(times(self.0, other.0, P))
+    }
+}
+
+#[cfg(test)]
+mod tests {
+    use super::*;
+    use crate::rng::Rng;
+
+    #[test]
+    fn powers_are_repeated_products() {
+        for base in [0, 1, 2, 4, Q - 1, P - 1] {
+            let mut product = 1;
+            for exponent in 0..70 {
+                assert_eq!(power(base, exponent, P), product, "{base}^{exponent}");
+                product = times(product, base, P);
+            }
+        }
+    }
+
+    #[test]
+    fn squares_are_the_numbers_of_order_q() {
+        let mut rng = Rng::new(7);
+        let drawn = (0..5000).map(|_| rng.between(1, P - 1));
+        for number in (1..2000).chain(P - 2000..P).chain(drawn) {
+            assert_eq!(is_square(number), power(number, Q, P) == 1, "{number}");
+        }
     }
 }
