@@ -16,7 +16,7 @@ use Rattle.records.specs.Tags.{tagOf, setupLength, dealingLength, complaintLeng
 use Rattle.refusals.specs.Refusals.{setupRefusal, dealingRefusal, maskFits, complaintRefusal, challengesRefusal, responseRefusal}
 use Rattle.run.specs.declared.Run.{Run}
 use Rattle.protocol.specs.Transcript.{dealingAt, validShare, coefficient, keyAt, combinedAt, nonce, challengeAt, responseAt, passes, exponent, productOver, dealerFactor}
-use Rattle.protocol.specs.Arrays.{base, cell}
+use Rattle.arrays.specs.Arrays.{base, cell}
 use Rattle.dealing.specs.Definitions.{noSetup, noDealings, setupOf, dealingNumber, wrongShares, withDealing, mayBlame, keyIn}
 use Rattle.complaint.specs.Definitions.{noComplaints, complaintNumber, withComplaint, complaintStage, maskBy, blamedBy, unblamed}
 use Rattle.response.specs.Definitions.{noResponses, phiOf, responseNumber, withResponse, transcript, signaturesOf}

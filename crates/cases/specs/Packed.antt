@@ -15,7 +15,7 @@ use Rattle.records.specs.Bytes.{byteAt, numberAt, word}
 use Rattle.records.specs.Tags.{tagOf, setupLength, dealingLength, complaintLength, challengesLength, responseLength, sharesFrom}
 use Rattle.refusals.specs.Refusals.{setupRefusal, dealingRefusal, maskFits, complaintRefusal, challengesRefusal, responseRefusal}
 use Rattle.protocol.specs.Transcript.{dealingAt, validShare, coefficient, keyAt, combinedAt, nonce, challengeAt, responseAt, passes, exponent, productOver, dealerFactor}
-use Rattle.protocol.specs.Arrays.{base, cell}
+use Rattle.arrays.specs.Arrays.{base, cell}
 use Rattle.dealing.specs.Definitions.{noSetup, noDealings, setupOf, dealingNumber, wrongShares, withDealing, mayBlame, keyIn}
 use Rattle.complaint.specs.Definitions.{noComplaints, complaintNumber, withComplaint, complaintStage, maskBy, blamedBy, unblamed}
 use Rattle.response.specs.Definitions.{noResponses, phiOf, responseNumber, withResponse, transcript, signaturesOf}

@@ -18,7 +18,8 @@ use Rattle.records.specs.Laws.{Bounds, cells-max}
 use Rattle.text.specs.Lines.{line}
 use Rattle.text.specs.LineLaws.{line-max}
 use Rattle.protocol.specs.Transcript.{nonce}
-use Rattle.protocol.specs.Arrays.{cell, commitmentIn, elements, combinedValue}
+use Rattle.arrays.specs.Arrays.{cell, commitmentIn, elements}
+use Rattle.combination.specs.Combination.{combinedValue}
 use Rattle.response.specs.ResponseLaws.{combined-is}
 use Rattle.run.specs.declared.Run.{Run}
 use Rattle.run.specs.Runs.{transcriptOf, kept}

@@ -7,7 +7,7 @@ ghost use lib.ListN.{length};
 ghost use Rattle.records.specs.Parameters.{mostParties, batch};
 ghost use Rattle.text.specs.Lines.{line};
 ghost use Rattle.text.specs.Texts.{Wrote};
-ghost use Rattle.protocol.specs.Arrays.{powersAt};
+ghost use Rattle.combination.specs.Combination.{powersAt};
 ghost use Rattle.run.specs.Runs.{wellFormed};
 ghost use Rattle.closing.specs.Closing.{sigWord, signatureLines, closing};
 ghost use Rattle.closing.specs.SignatureRows.{rowLines};
@@ -38,7 +38,7 @@ fn put_row(out: &mut [u8], at: usize, run: Run, powers: [Element; 1024], u: u8) 
 {
     let a = run.setup.a;
     let quorum = records::quorum(run.setup.t, a) as u8;
-    let values = protocol::combined_values(powers, answers::unblamed(run), run.setup.n, quorum);
+    let values = combination::combined_values(powers, answers::unblamed(run), run.setup.n, quorum);
     let basis = interpolation::committed_points(a, quorum).basis();
     let first = (u - 1) as usize * a as usize;
     let mut next = at;
@@ -62,7 +62,7 @@ fn put_signatures(out: &mut [u8], at: usize, run: Run) -> usize
     let mut next = at;
     for u in 0..count {
         next = put_row(out, next, run, powers, u + 1);
-        let raised = protocol::raised(powers, run.setup.n);
+        let raised = combination::raised(powers, run.setup.n);
         powers = raised;
     }
     next

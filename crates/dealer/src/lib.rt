@@ -9,7 +9,7 @@ ghost use Rattle.lists.specs.Tests.{pick, allTo};
 ghost use Rattle.field.specs.Definitions.{scalar, isScalar};
 ghost use Rattle.records.specs.Parameters.{inBounds, quorum};
 ghost use Rattle.encoding.specs.Bytes.{fours};
-ghost use Rattle.protocol.specs.Arrays.{scalars};
+ghost use Rattle.arrays.specs.Arrays.{scalars};
 ghost use Rattle.dealer.specs.Dealt.{setupRefused, setupBytes, dealingRefused, shareFor, dealingBytes};
 use field::Element;
 use field::Scalar;

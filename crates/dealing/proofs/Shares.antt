@@ -19,8 +19,8 @@ use Rattle.records.specs.Bytes.{word}
 use Rattle.records.specs.Tags.{sharesFrom}
 use Rattle.records.specs.Laws.{bounds-of, quorum-max}
 use Rattle.protocol.specs.Transcript.{dealingAt, validShare}
-use Rattle.protocol.specs.Arrays.{elements}
-use Rattle.protocol.specs.ArrayLaws.{values-interpolated}
+use Rattle.arrays.specs.Arrays.{elements}
+use Rattle.arrays.specs.ArrayLaws.{values-interpolated}
 use Rattle.dealing.specs.declared.Setup.{Setup}
 use Rattle.dealing.specs.Definitions.{wrongShares}
 

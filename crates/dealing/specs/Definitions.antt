@@ -13,7 +13,7 @@ use Rattle.records.specs.Bytes.{byteAt, word, sender}
 use Rattle.records.specs.Tags.{sharesFrom}
 use Rattle.refusals.specs.Refusals.{dealingRefusal}
 use Rattle.protocol.specs.Transcript.{validShare}
-use Rattle.protocol.specs.Arrays.{base}
+use Rattle.arrays.specs.Arrays.{base}
 use Rattle.dealing.specs.declared.Setup.{Setup}
 use Rattle.dealing.specs.declared.Dealings.{Dealings}
 

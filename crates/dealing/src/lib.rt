@@ -7,7 +7,7 @@ ghost use Rattle.field.specs.Definitions.{element, identity};
 ghost use Rattle.records.specs.Parameters.{inBounds};
 ghost use Rattle.records.specs.Bytes.{word, sender};
 ghost use Rattle.protocol.specs.Transcript.{keyAt};
-ghost use Rattle.protocol.specs.Arrays.{elements};
+ghost use Rattle.arrays.specs.Arrays.{elements};
 ghost use Rattle.dealing.specs.Definitions.{setupOf, keyIn, dealingNumber, wrongShares, withDealing, mayBlame};
 use field::Element;
 use field::Scalar;
@@ -82,7 +82,7 @@ fn wrong_shares(setup: Setup, bytes: &[u8]) -> u64
         let j = i + 1;
         let weights = basis.weights(interpolation::point(j, 0));
         let share = Scalar(records::word(bytes, from, i as u16));
-        if !protocol::share_fits(weights, values, share) {
+        if !arrays::share_fits(weights, values, share) {
             wrong = sets::insert(wrong, j);
         }
     }
@@ -110,7 +110,7 @@ impl Setup {
         ensures { λ r. ⌜ r ≡ keyAt (self .t) (self .a) (keyIn self) x ⌝ }
     {
         let key = self.key;
-        let values = protocol::key_values(key, self.t, self.a);
+        let values = arrays::key_values(key, self.t, self.a);
         interpolation::committed_points(self.a, self.t + self.a)
             .weights(x)
             .product(values)

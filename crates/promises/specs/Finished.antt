@@ -23,7 +23,7 @@ use Rattle.protocol.specs.Transcript.{Transcript, passes, nonce, responseAt}
 use Rattle.protocol.specs.Alike.{Alike, nonce-same}
 use Rattle.protocol.specs.Signature.{signature}
 use Rattle.run.specs.declared.Run.{Run}
-use Rattle.protocol.specs.Arrays.{base, cell}
+use Rattle.arrays.specs.Arrays.{base, cell}
 use Rattle.response.specs.Definitions.{transcript, respondersOf, phiOf}
 use Rattle.run.specs.Runs.{transcriptOf, kept}
 use Rattle.run.specs.Steps.{after}

@@ -25,7 +25,7 @@ use Rattle.dealing.specs.declared.Dealings.{Dealings}
 use Rattle.complaint.specs.declared.Complaints.{Complaints}
 use Rattle.response.specs.declared.Responses.{Responses}
 use Rattle.run.specs.declared.Run.{Run}
-use Rattle.protocol.specs.Arrays.{base}
+use Rattle.arrays.specs.Arrays.{base}
 use Rattle.dealing.specs.Definitions.{noSetup, setupOf, wrongShares}
 use Rattle.run.specs.Runs.{wellFormed, stageOf, transcriptOf}
 use Rattle.response.specs.Definitions.{phiOf}

@@ -14,7 +14,7 @@ use Rattle.records.specs.Bytes.{byteAt, numberAt, word, sender}
 use Rattle.records.specs.Tags.{Tag, SU, DE, VE, CH, RE, code, tagOf}
 use Rattle.run.specs.declared.Run.{Run}
 use Rattle.protocol.specs.Transcript.{Transcript}
-use Rattle.protocol.specs.Arrays.{cell}
+use Rattle.arrays.specs.Arrays.{cell}
 use Rattle.run.specs.Runs.{fresh}
 use Rattle.run.specs.Steps.{stepOf}
 

@@ -8,7 +8,7 @@ use lib.Dec.{leb}
 use borrow.Author.Tests.{leb-true}
 use Rattle.records.specs.Parameters.{batch}
 use Rattle.protocol.specs.Transcript.{Transcript}
-use Rattle.protocol.specs.Arrays.{cell}
+use Rattle.arrays.specs.Arrays.{cell}
 
 -- u is from 1 to b, and k from 1 to a
 pub record Within (w : Transcript) (u k : ℕ) : Type 0 where

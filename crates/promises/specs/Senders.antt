@@ -17,7 +17,7 @@ use Rattle.sets.specs.Masks.{has, insert, count}
 use Rattle.sets.specs.MaskLaws.{has-none, has-zero, has-insert}
 use Rattle.sets.specs.MemberLaws.{no-members, more-members, count-le}
 use Rattle.records.specs.Bytes.{word, sender}
-use Rattle.protocol.specs.Arrays.{base}
+use Rattle.arrays.specs.Arrays.{base}
 use Rattle.promises.specs.Lists.{some, sentBy, recordOf}
 use Rattle.promises.specs.ListLaws.{snoc, some-snoc, sentBy-other, none-sent, recordOf-new, recordOf-other}
 

@@ -17,8 +17,9 @@ use Rattle.records.specs.Parameters.{quorum, batch}
 use Rattle.records.specs.Bytes.{word, sender}
 use Rattle.records.specs.Laws.{Bounds, key-max}
 use Rattle.protocol.specs.Transcript.{keyAt, challengeAt, responseAt, passes}
-use Rattle.protocol.specs.Arrays.{commitmentIn, challengeIn, elements, scalars, combinedValue, memberPoints, memberNumbers}
-use Rattle.protocol.specs.ArrayLaws.{challenges-interpolated, members-interpolated}
+use Rattle.arrays.specs.Arrays.{commitmentIn, challengeIn, memberPoints, memberNumbers, elements, scalars}
+use Rattle.combination.specs.Combination.{combinedValue}
+use Rattle.arrays.specs.ArrayLaws.{challenges-interpolated, members-interpolated}
 use Rattle.dealing.specs.declared.Setup.{Setup}
 use Rattle.dealing.specs.declared.Dealings.{Dealings}
 use Rattle.dealing.specs.Definitions.{keyIn}

@@ -13,7 +13,7 @@ use Rattle.records.specs.Parameters.{batch}
 use Rattle.records.specs.Bytes.{word, sender}
 use Rattle.refusals.specs.Refusals.{responseRefusal}
 use Rattle.protocol.specs.Transcript.{Transcript, passes}
-use Rattle.protocol.specs.Arrays.{base, commitmentIn, challengeIn}
+use Rattle.arrays.specs.Arrays.{base, commitmentIn, challengeIn}
 use Rattle.dealing.specs.declared.Setup.{Setup}
 use Rattle.dealing.specs.declared.Dealings.{Dealings}
 use Rattle.dealing.specs.Definitions.{keyIn}

@@ -11,9 +11,10 @@ use Rattle.interpolation.specs.Rows.{listed, weightsOf, productOf, elementAt-co
 use Rattle.records.specs.Parameters.{quorum}
 use Rattle.records.specs.Laws.{Bounds, quorum-max}
 use Rattle.protocol.specs.Transcript.{combinedAt}
-use Rattle.protocol.specs.Arrays.{commitmentIn, elements, combinedValue}
-use Rattle.protocol.specs.ArrayLaws.{values-interpolated}
-use Rattle.protocol.specs.Combined.{combined-values, combinedValue-same}
+use Rattle.arrays.specs.Arrays.{commitmentIn, elements}
+use Rattle.combination.specs.Combination.{combinedValue}
+use Rattle.arrays.specs.ArrayLaws.{values-interpolated}
+use Rattle.combination.specs.Combined.{combined-values, combinedValue-same}
 use Rattle.dealing.specs.declared.Setup.{Setup}
 use Rattle.dealing.specs.declared.Dealings.{Dealings}
 use Rattle.complaint.specs.declared.Complaints.{Complaints}

@@ -11,7 +11,7 @@ ghost use Rattle.records.specs.Parameters.{inBounds, batch};
 ghost use Rattle.records.specs.Bytes.{word, sender};
 ghost use Rattle.protocol.specs.Transcript.{combinedAt, passes};
 ghost use Rattle.interpolation.specs.Rows.{basisOf};
-ghost use Rattle.protocol.specs.Arrays.{memberPoints};
+ghost use Rattle.arrays.specs.Arrays.{memberPoints};
 ghost use Rattle.response.specs.Definitions.{transcript, responseNumber, withResponse, phiOf, signaturesOf};
 use complaint::Complaints;
 use dealing::Dealings;
@@ -74,21 +74,21 @@ fn row_passes(
     let mut powers = dealings.commitments;
     let mut passed = true;
     'row: for u in 0..records::batch(setup.n, setup.t) {
-        let values = protocol::combined_values(powers, qual, setup.n, quorum);
+        let values = combination::combined_values(powers, qual, setup.n, quorum);
         let mut image = Element::ONE;
         for v in 0..quorum {
             let value = values[v as usize];
             let weight = at_points.at[v as usize];
             image = image.mul(value.pow(weight));
         }
-        let challenge = at_slots.sum(protocol::challenge_values(challenges, setup.a, u + 1));
+        let challenge = at_slots.sum(arrays::challenge_values(challenges, setup.a, u + 1));
         let wanted = image.mul(key.pow(challenge));
         let sent = Element::GENERATOR.pow(Scalar(records::word(bytes, 4, u as u16)));
         if !sent.same(wanted) {
             passed = false;
             break 'row;
         }
-        let next = protocol::raised(powers, setup.n);
+        let next = combination::raised(powers, setup.n);
         powers = next;
     }
     passed
@@ -108,9 +108,9 @@ pub fn combined_at(
     let n = setup.n;
     let list = dealings.commitments;
     let quorum = records::quorum(setup.t, setup.a) as u8;
-    let powers = protocol::powers_at(list, n, u);
+    let powers = combination::powers_at(list, n, u);
     let qual = complaints.unblamed(n, dealings.dealers);
-    let values = protocol::combined_values(powers, qual, n, quorum);
+    let values = combination::combined_values(powers, qual, n, quorum);
     interpolation::committed_points(setup.a, quorum)
         .weights(x)
         .product(values)
@@ -173,7 +173,7 @@ impl Responses {
         let numbers = self.numbers;
         basis
             .weights(interpolation::point(1, k))
-            .sum(protocol::member_numbers(n, set, numbers, u))
+            .sum(arrays::member_numbers(n, set, numbers, u))
     }
 
     // The list with every φ, u outer.
@@ -182,7 +182,7 @@ impl Responses {
         ensures { λ r. ⌜ r ≡ signaturesOf setup self list ⌝ }
     {
         let a = setup.a;
-        let basis = protocol::member_points(setup.n, self.responders).basis();
+        let basis = arrays::member_points(setup.n, self.responders).basis();
         let mut signatures = list;
         let count = a as u16 * records::batch(setup.n, setup.t) as u16;
         for x in 0..count {

@@ -10,7 +10,7 @@ use Rattle.field.specs.declared.Scalar.{Scalar}
 use Rattle.field.specs.Definitions.{scalar}
 use Rattle.records.specs.Parameters.{inBounds}
 use Rattle.protocol.specs.Transcript.{Transcript}
-use Rattle.protocol.specs.Arrays.{cell}
+use Rattle.arrays.specs.Arrays.{cell}
 use Rattle.dealing.specs.declared.Setup.{Setup}
 use Rattle.dealing.specs.Definitions.{noSetup, noDealings}
 use Rattle.complaint.specs.Definitions.{noComplaints}

@@ -137,7 +137,7 @@ fn combined_share(qual: u64, n: u8, shares: &[u32], u: u8) -> Scalar
     for i in 0..n {
         if sets::has(qual, i + 1) {
             let share = Scalar(shares[i as usize]);
-            sum = sum.add(protocol::coefficient(i + 1, u).mul(share));
+            sum = sum.add(combination::coefficient(i + 1, u).mul(share));
         }
     }
     sum
@@ -156,7 +156,7 @@ fn put_responses(out: &mut [u8], run: Run, j: u8, key: u32, shares: &[u32])
     let weights = interpolation::slot_points(a).weights(interpolation::point(j, 0));
     for u in 0..count {
         let share = combined_share(qual, n, shares, u + 1);
-        let challenge = weights.sum(protocol::challenge_values(challenges, a, u + 1));
+        let challenge = weights.sum(arrays::challenge_values(challenges, a, u + 1));
         let number = share.add(challenge.mul(Scalar(key)));
         encoding::put(out, 4 + 4 * u as usize, number.0);
     }

@@ -11,7 +11,7 @@ use lib.Dec.{eqb}
 use Rattle.lists.specs.Calls.{holds, fails, is-not}
 use Rattle.records.specs.Parameters.{batch}
 use Rattle.records.specs.Laws.{cells-max}
-use Rattle.protocol.specs.Arrays.{cell}
+use Rattle.arrays.specs.Arrays.{cell}
 use Rattle.run.specs.declared.Run.{Run}
 use Rattle.run.specs.Runs.{stageOf, kept}
 use Rattle.run.specs.RunLaws.{formed-of, stage-live}

@@ -9,7 +9,7 @@ use Rattle.interpolation.specs.Bases.{weights-by}
 use Rattle.records.specs.Laws.{Bounds, quorum-max}
 use Rattle.text.specs.Texts.{Wrote, wrote-none, wrote-length, wrote-append}
 use Rattle.protocol.specs.Transcript.{nonce}
-use Rattle.protocol.specs.Powers.{combined-powers}
+use Rattle.combination.specs.Powers.{combined-powers}
 use Rattle.run.specs.Runs.{transcriptOf}
 use Rattle.run.specs.RunLaws.{formed-of}
 use Rattle.closing.specs.SignatureRows.{rowLines, line-is, row-next, row-max, nonce-is, kept-at, kept-below}

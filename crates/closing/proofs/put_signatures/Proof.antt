@@ -8,8 +8,8 @@ use lib.ListN.{length}
 use Rattle.records.specs.Parameters.{batch}
 use Rattle.records.specs.Laws.{Bounds, batch-max, cells-max}
 use Rattle.text.specs.Texts.{Wrote, wrote-none, wrote-length, wrote-append}
-use Rattle.protocol.specs.Arrays.{powersAt}
-use Rattle.protocol.specs.Powers.{powers-none, powers-next}
+use Rattle.combination.specs.Combination.{powersAt}
+use Rattle.combination.specs.Powers.{powers-none, powers-next}
 use Rattle.run.specs.RunLaws.{formed-of}
 use Rattle.closing.specs.Closing.{signatureLines}
 use Rattle.closing.specs.SignatureRows.{rows-next, signatures-max}

@@ -6,7 +6,7 @@ use borrow.Author.Needs.{needs}
 use lib.ListN.{length, getD}
 use Rattle.lists.specs.Stores.{stored-first, stored-none}
 use Rattle.field.specs.Definitions.{scalar}
-use Rattle.protocol.specs.Arrays.{scalars}
+use Rattle.arrays.specs.Arrays.{scalars}
 use Rattle.dealer.proofs.load_scalars.Statement.{statement}
 use Rattle.dealer.proofs.load_scalars.Tie as tie
 

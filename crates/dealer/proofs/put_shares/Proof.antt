@@ -14,8 +14,8 @@ use Rattle.interpolation.specs.Rows.{listed, weightsOf, sumOf}
 use Rattle.records.specs.Parameters.{quorum}
 use Rattle.records.specs.Laws.{bounds-of, quorum-max}
 use Rattle.encoding.specs.Stores.{Put, put-none, put-next}
-use Rattle.protocol.specs.Arrays.{scalars}
-use Rattle.protocol.specs.ArrayLaws.{scalars-interpolated}
+use Rattle.arrays.specs.Arrays.{scalars}
+use Rattle.arrays.specs.ArrayLaws.{scalars-interpolated}
 use Rattle.dealer.specs.Dealt.{shareFor}
 use Rattle.dealer.proofs.put_shares.Statement.{statement}
 use Rattle.dealer.proofs.put_shares.Tie as tie

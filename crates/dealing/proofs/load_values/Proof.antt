@@ -7,7 +7,7 @@ use Prim.Native.Nat.{_-_, _≤_}
 use Rattle.lists.specs.Stores.{stored, filled, length-filled}
 use Rattle.field.specs.Definitions.{element, identity}
 use Rattle.records.specs.Bytes.{word}
-use Rattle.protocol.specs.Arrays.{elements}
+use Rattle.arrays.specs.Arrays.{elements}
 use Rattle.lists.specs.Loads.{load-in, load-past, loaded}
 use Rattle.dealing.proofs.load_values.Statement.{statement}
 use Rattle.dealing.proofs.load_values.Tie as tie

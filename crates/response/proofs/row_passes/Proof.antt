@@ -16,9 +16,9 @@ use Rattle.records.specs.Parameters.{batch}
 use Rattle.records.specs.Bytes.{word, sender}
 use Rattle.records.specs.Laws.{bounds-of, quorum-max, batch-max}
 use Rattle.protocol.specs.Transcript.{passes}
-use Rattle.protocol.specs.Arrays.{powersAt}
-use Rattle.protocol.specs.ArrayLaws.{elements-length}
-use Rattle.protocol.specs.Powers.{powers-none, powers-next, combined-powers}
+use Rattle.combination.specs.Combination.{powersAt}
+use Rattle.arrays.specs.ArrayLaws.{elements-length}
+use Rattle.combination.specs.Powers.{powers-none, powers-next, combined-powers}
 use Rattle.response.specs.Definitions.{transcript}
 use Rattle.response.proofs.Rows.{wanted, fits, all-weights, row-tested}
 use Rattle.response.proofs.row_passes.Statement.{statement}

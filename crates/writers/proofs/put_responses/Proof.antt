@@ -18,8 +18,8 @@ use Rattle.records.specs.Parameters.{batch}
 use Rattle.encoding.specs.Bytes.{fours}
 use Rattle.encoding.specs.Stores.{Put, put-none, put-next}
 use Rattle.protocol.specs.Transcript.{challengeAt}
-use Rattle.protocol.specs.Arrays.{challengeIn, scalars}
-use Rattle.protocol.specs.ArrayLaws.{scalars-interpolated}
+use Rattle.arrays.specs.Arrays.{challengeIn, scalars}
+use Rattle.arrays.specs.ArrayLaws.{scalars-interpolated}
 use Rattle.response.specs.Definitions.{transcript}
 use Rattle.run.specs.declared.Run.{Run}
 use Rattle.run.specs.Runs.{wellFormed, transcriptOf}

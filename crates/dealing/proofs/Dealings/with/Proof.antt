@@ -11,7 +11,7 @@ use Rattle.field.specs.Definitions.{element}
 use Rattle.records.specs.Parameters.{quorum}
 use Rattle.records.specs.Bytes.{word, sender}
 use Rattle.records.specs.Laws.{bounds-of}
-use Rattle.protocol.specs.Arrays.{base}
+use Rattle.arrays.specs.Arrays.{base}
 use Rattle.dealing.specs.Definitions.{withDealing, wrongShares}
 use Rattle.dealing.proofs.Dealings.with.Statement.{statement}
 use Rattle.dealing.proofs.Dealings.with.Tie as tie

@@ -6,7 +6,7 @@ use Prim.Native.Nat.{_+_, _-_}
 use lib.ListN.{getD}
 use Rattle.field.specs.Definitions.{identity}
 use Rattle.records.specs.Laws.{bounds-of, key-max}
-use Rattle.protocol.specs.ArrayLaws.{values-interpolated}
+use Rattle.arrays.specs.ArrayLaws.{values-interpolated}
 use Rattle.dealing.specs.Definitions.{keyIn}
 use Rattle.protocol.specs.Transcript.{keyAt}
 use Rattle.dealing.proofs.Setup.key_at.Statement.{statement}

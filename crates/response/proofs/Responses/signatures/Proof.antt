@@ -9,7 +9,7 @@ use Rattle.field.specs.declared.Scalar.{Scalar}
 use Rattle.interpolation.specs.Rows.{basisOf}
 use Rattle.records.specs.Parameters.{batch}
 use Rattle.records.specs.Laws.{bounds-of, key-max, batch-max, cells-max}
-use Rattle.protocol.specs.Arrays.{memberPoints}
+use Rattle.arrays.specs.Arrays.{memberPoints}
 use Rattle.dealing.specs.declared.Setup.{Setup}
 use Rattle.response.specs.declared.Responses.{Responses}
 use Rattle.response.specs.Definitions.{phiOf, signaturesOf}

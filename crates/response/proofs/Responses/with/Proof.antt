@@ -4,7 +4,7 @@ use native.Mathlib.Omega.{arith}
 use mathlib.Core.Logic.{⊎-elim}
 use mathlib.Core.Path.{_≡_}
 use Prim.Native.Nat.{_-_}
-use Rattle.protocol.specs.Arrays.{base}
+use Rattle.arrays.specs.Arrays.{base}
 use Rattle.response.specs.Definitions.{withResponse}
 use Rattle.response.proofs.Responses.with.Statement.{statement}
 use Rattle.response.proofs.Responses.with.Tie as tie

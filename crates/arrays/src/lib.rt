@@ -1,0 +1,97 @@
+// The public values of a committee on flat arrays: the key, the challenges, the values of a set of parties, and the test of a share.
+ghost use mathlib.Core.Path.{_≡_};
+ghost use Prim.Native.Nat.{_+_, _-_, min};
+ghost use lib.ListN.{getD};
+ghost use Rattle.sets.specs.Masks.{has};
+ghost use Rattle.field.specs.Definitions.{identity, generator, sameElement, raise};
+ghost use Rattle.interpolation.specs.Rows.{productOf};
+ghost use Rattle.arrays.specs.Arrays.{challengeIn, memberPoints, memberNumbers, elements, scalars};
+use field::Element;
+use field::Scalar;
+use interpolation::Row;
+
+// One less, and 0 for 0.
+pub fn predecessor(u: u8) -> u8
+    ensures { λ r. ⌜ r ≡ u - 1 ⌝ }
+{
+    if 0 < u { u - 1 } else { 0 }
+}
+
+// How many of `count` values an array of 64 takes.
+pub fn capped(count: usize) -> usize
+    ensures { λ r. ⌜ r ≡ min count 64 ⌝ }
+{
+    if count < 64 { count } else { 64 }
+}
+
+// Whether a share for j is valid under committed values: the weights are those of the committed points at j.
+pub fn share_fits(weights: Row, values: [Element; 64], share: Scalar) -> bool
+    ensures { λ r. ⌜ r ≡ sameElement (raise generator share) (productOf weights values) ⌝ }
+{
+    let image = weights.product(values);
+    let sent = Element::GENERATOR.pow(share);
+    sent.same(image)
+}
+
+// S at the points 1-a to 0, and S_1 to S_t.
+pub fn key_values(key: [Element; 32], t: u8, a: u8) -> [Element; 64]
+    ensures { λ r. ⌜ r ≡ elements (t + a) (λ v. getD key (v + 1 - a) identity) ⌝ }
+{
+    let packed = a as usize;
+    let m = capped(t as usize + packed);
+    let mut values = [Element::ONE; 64];
+    for v in 0..m {
+        let j = if v < packed { 0 } else { v + 1 - packed };
+        values[v] = if j < 32 { key[j] } else { Element::ONE };
+    }
+    values
+}
+
+// e(u,1) to e(u,a).
+pub fn challenge_values(list: [Scalar; 512], a: u8, u: u8) -> [Scalar; 64]
+    ensures { λ r. ⌜ r ≡ scalars a (λ v. challengeIn a list u (v + 1)) ⌝ }
+{
+    let m = capped(a as usize);
+    let start = predecessor(u) as usize * a as usize;
+    let mut values = [Scalar::ZERO; 64];
+    for v in 0..m {
+        let at = start + v;
+        values[v] = if at < 512 { list[at] } else { Scalar::ZERO };
+    }
+    values
+}
+
+// The points of the members of a set.
+pub fn member_points(n: u8, set: u64) -> Row
+    ensures { λ r. ⌜ r ≡ memberPoints n set ⌝ }
+{
+    let mut at = [Scalar::ZERO; 64];
+    let mut count: u8 = 0;
+    for i in 0..n {
+        if sets::has(set, i + 1) {
+            at[count as usize] = interpolation::point(i + 1, 0);
+            count += 1;
+        }
+    }
+    Row {
+        at: at,
+        count: count,
+    }
+}
+
+// Their numbers for u.
+pub fn member_numbers(n: u8, set: u64, numbers: [Scalar; 1024], u: u8) -> [Scalar; 64]
+    ensures { λ r. ⌜ r ≡ memberNumbers n set numbers u ⌝ }
+{
+    let before = predecessor(u) as usize;
+    let mut values = [Scalar::ZERO; 64];
+    let mut count: usize = 0;
+    for i in 0..n {
+        if sets::has(set, i + 1) {
+            let at = i as usize * 32 + before;
+            values[count] = if at < 1024 { numbers[at] } else { Scalar::ZERO };
+            count += 1;
+        }
+    }
+    values
+}

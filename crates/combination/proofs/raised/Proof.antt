@@ -1,0 +1,96 @@
+-- `raised` meets its contract. The loop has stored the powers passed. Assumes nothing.
+use borrow.Author.Needs.{needs}
+use native.Mathlib.Omega.{arith}
+use mathlib.Core.Logic.{⊎-elim}
+use mathlib.Core.Path.{_≡_, refl, sym, ap, ap₂, _∙_}
+use mathlib.Core.List.{List}
+use Prim.Native.Nat.{ℕ, _+_, _*_, _-_, _/_, _≤_, min}
+use lib.ListN.{length, getD, set}
+use Rattle.lists.specs.Stores.{stored, getD-default, stored-first, stored-capped}
+use Rattle.field.specs.declared.Element.{Element}
+use Rattle.field.specs.Definitions.{identity, powered}
+use Rattle.combination.specs.Combination.{raised}
+use Rattle.combination.proofs.raised.Statement.{statement}
+use Rattle.combination.proofs.raised.Tie as tie
+
+-- the power at a place
+abbrev power-at : List Element → ℕ → Element
+power-at list at = powered (getD list at identity) (at / 32 + 1)
+
+abbrev Inv-loop : tie.InvT-loop
+Inv-loop n list count next₀ at₀ next at = (at ≤ count) × (count ≡ min (n * 32) 1024) × (length list ≡ 1024) × (next ≡ stored list 0 at (power-at list))
+
+abbrev μ-loop : tie.MeasureT-loop
+μ-loop n list count next₀ at₀ next at = count - at
+
+mul-count : tie.Need-mul-count Inv-loop μ-loop
+mul-count c = search needs
+
+loop-holds : tie.Need-loop-holds Inv-loop μ-loop
+unfolding stored
+loop-holds c = (omega arith, ⊎-elim (λ w. w .1 ∙ omega (arith, w .0 .taken)) (λ w. w .1 ∙ omega (arith, w .0 .left)) (c .if1 .came), search needs, refl)
+
+add-i : tie.Need-add-i Inv-loop μ-loop
+add-i c = search needs
+
+cast-i : tie.Need-cast-i Inv-loop μ-loop
+cast-i c = search needs
+
+mul-power : tie.Need-mul-power Inv-loop μ-loop
+mul-power c = search needs
+
+array-copy-out-power : tie.Need-array-copy-out-power Inv-loop μ-loop
+array-copy-out-power c = search needs
+
+power-requires : tie.Need-power-requires Inv-loop μ-loop
+power-requires c κs = search needs
+
+mul-next : tie.Need-mul-next Inv-loop μ-loop
+mul-next c = search needs
+
+array-set-from-next : tie.Need-array-set-from-next Inv-loop μ-loop
+array-set-from-next c = search needs
+
+add-at : tie.Need-add-at Inv-loop μ-loop
+add-at c = search needs
+
+loop-less : tie.Need-loop-less Inv-loop μ-loop
+loop-less c = search needs
+
+loop-again : tie.Need-loop-again Inv-loop μ-loop
+loop-again c =
+    let list = c .before .before .before .before .before .args .t1 in
+    let l = c .before .before .before .loop in (
+      omega arith,
+      l .inv .1,
+      l .inv .2,
+      ap₂ (λ (r : List Element) (x : Element). set r (l .at) x) (l .inv .3) (c .power .ensures ∙ ap (λ (v : Element). powered v (l .at / 32 + 1)) (getD-default list (l .at) _ identity (omega arith))) ∙ sym (stored-first list (l .at) (power-at list)),
+    )
+
+returns : tie.Need-returns Inv-loop μ-loop
+unfolding raised
+returns c =
+    let a = c .before .before .before .args in
+    let l = c .before .loop in
+    let end : l .at ≡ min (a .n * 32) (length (a .t1)) = omega arith in
+    l .inv .3 ∙ ap (λ (k : ℕ). stored (a .t1) 0 k (power-at (a .t1))) end ∙ stored-capped (a .t1) (a .n * 32) (power-at (a .t1))
+
+pub raised-spec : {M : Type 1} → statement M
+raised-spec =
+    tie.close
+    (tie.spec
+    Inv-loop
+    μ-loop
+    mul-count
+    loop-holds
+    add-i
+    cast-i
+    mul-power
+    array-copy-out-power
+    power-requires
+    mul-next
+    array-set-from-next
+    add-at
+    loop-less
+    loop-again
+    returns)

@@ -1,0 +1,3 @@
+pub mod Combination
+pub mod Combined
+pub mod Powers

@@ -1,0 +1,62 @@
+// The committed values of a set of dealers, combined for each u: one product over the set, raised step by step.
+ghost use mathlib.Core.Path.{_≡_};
+ghost use Prim.Native.Nat.{_+_, _-_};
+ghost use Rattle.sets.specs.Masks.{has};
+ghost use Rattle.protocol.specs.Transcript.{coefficient};
+ghost use Rattle.arrays.specs.Arrays.{commitmentIn, elements};
+ghost use Rattle.combination.specs.Combination.{combinedValue, raised, powersAt};
+use field::Element;
+use field::Scalar;
+use interpolation::Row;
+
+// i^(u-1) as a scalar, i being the dealer's number.
+pub fn coefficient(i: u8, u: u8) -> Scalar
+    ensures { λ r. ⌜ r ≡ coefficient i u ⌝ }
+{
+    Scalar(i as u32).power(arrays::predecessor(u) as u32)
+}
+
+// The committed values of n dealers, each to the power of its dealer's number: from V^(i^(u-1)) to V^(i^u).
+pub fn raised(list: [Element; 1024], n: u8) -> [Element; 1024]
+    ensures { λ r. ⌜ r ≡ raised n list ⌝ }
+{
+    let count = if n < 32 { n as usize * 32 } else { 1024 };
+    let mut next = list;
+    for at in 0..count {
+        let i = (at / 32 + 1) as u32;
+        next[at] = list[at].power(i);
+    }
+    next
+}
+
+// The committed values to the power of i^(u-1), i being the dealer's number.
+pub fn powers_at(list: [Element; 1024], n: u8, u: u8) -> [Element; 1024]
+    ensures { λ r. ⌜ r ≡ powersAt n list (u - 1) ⌝ }
+{
+    let mut powers = list;
+    for step in 0..arrays::predecessor(u) {
+        let next = raised(powers, n);
+        powers = next;
+    }
+    powers
+}
+
+// The values of the dealers of a set, combined for the u whose powers these are: one product over the set for each v.
+pub fn combined_values(powers: [Element; 1024], qual: u64, n: u8, quorum: u8) -> [Element; 64]
+    ensures { λ r. ⌜ r ≡ elements quorum (combinedValue n (has qual) (commitmentIn powers) 1) ⌝ }
+{
+    let m = arrays::capped(quorum as usize);
+    let mut values = [Element::ONE; 64];
+    for v in 0..m {
+        let mut product = Element::ONE;
+        for i in 0..n {
+            if sets::has(qual, i + 1) {
+                let at = i as usize * 32 + v;
+                let value = if at < 1024 { powers[at] } else { Element::ONE };
+                product = product.mul(value);
+            }
+        }
+        values[v] = product;
+    }
+    values
+}
