@@ -3,6 +3,8 @@ use mathlib.Core.Path.{_≡_, sym, _∙_}
 use borrow.Author.Needs.{needs}
 use borrow.Author.Tests.{eq-eqb, ne-eqb}
 use lib.Dec.{eqb}
+use mathlib.Core.Bool.{false}
+use Rattle.field.specs.Definitions.{isScalar}
 use Rattle.lists.specs.Tests.{require, require-true, require-false}
 use Rattle.lists.specs.Calls.{holds, fails, equals, differs}
 use Rattle.records.specs.Tags.{setupLength}
@@ -29,11 +31,9 @@ returns-3 : tie.Need-returns-3
 unfolding setupRefused require
 returns-3 c =
     let count = c .before .before in
-    rw (
-      holds (count .before .before .in-bounds .ensures) (count .before .if1 .left),
-      eq-eqb _ _ (count .if2 .left),
-      fails (c .before .accepts .ensures) (c .if3 .taken),
-    )
+    let bounds = count .before .before in
+    let none : isScalar (bounds .before .before .args .s) ≡ false = fails (c .before .accepts .ensures) (c .if3 .taken) in
+    rw (holds (bounds .in-bounds .ensures) (count .before .if1 .left), eq-eqb _ _ (count .if2 .left), none)
 
 all-scalars-requires : tie.Need-all-scalars-requires
 all-scalars-requires c κs = search needs

@@ -1,17 +1,24 @@
 -- `in_bounds` meets its contract: each test settles one factor of the definition. Assumes nothing.
 use borrow.Author.Needs.{needs}
 use borrow.Author.Tests.{le-leb, lt-leb}
+use mathlib.Core.Path.{_≡_}
+use mathlib.Core.Bool.{false}
+use lib.Dec.{leb}
 use Rattle.records.specs.Parameters.{inBounds}
 use Rattle.records.proofs.in_bounds.Statement.{statement}
 use Rattle.records.proofs.in_bounds.Tie as tie
 
 returns : tie.Need-returns
 unfolding inBounds
-returns c = rw (lt-leb 1 _ (c .if1 .taken))
+returns c =
+    let none : leb 1 (c .before .args .t) ≡ false = lt-leb 1 _ (c .if1 .taken) in
+    rw none
 
 returns-2 : tie.Need-returns-2
 unfolding inBounds
-returns-2 c = rw (le-leb 1 _ (c .before .if1 .left), lt-leb 1 _ (c .if2 .taken))
+returns-2 c =
+    let none : leb 1 (c .before .before .args .a) ≡ false = lt-leb 1 _ (c .if2 .taken) in
+    rw (le-leb 1 _ (c .before .if1 .left), none)
 
 returns-3 : tie.Need-returns-3
 unfolding inBounds

@@ -1,5 +1,9 @@
 -- `complaint_refused` meets its contract: the code asks what the definition asks, in its order. Assumes nothing.
 use borrow.Author.Needs.{needs}
+use mathlib.Core.Path.{_≡_}
+use mathlib.Core.Bool.{false}
+use lib.Dec.{eqb}
+use Rattle.run.specs.Runs.{stageOf}
 use Rattle.lists.specs.Tests.{require}
 use Rattle.lists.specs.Calls.{holds, fails, equals, differs, is, is-not}
 use Rattle.writers.specs.Writers.{complaintRefused}
@@ -11,7 +15,9 @@ stage-of-requires c κs = search needs
 
 returns : tie.Need-returns
 unfolding complaintRefused require
-returns c = rw (is-not (c .before .stage-of .ensures) (c .if1 .taken))
+returns c =
+    let other : eqb (stageOf (c .before .before .args .run)) 2 ≡ false = is-not (c .before .stage-of .ensures) (c .if1 .taken) in
+    rw other
 
 is-party-requires : tie.Need-is-party-requires
 is-party-requires c κs = search needs

@@ -2,6 +2,8 @@
 use borrow.Author.Needs.{needs}
 use mathlib.Core.Path.{_≡_}
 use mathlib.Core.Bool.{false}
+use lib.Dec.{eqb}
+use Rattle.run.specs.Runs.{stageOf}
 use Rattle.lists.specs.Tests.{require}
 use Rattle.lists.specs.Calls.{holds, fails, is, is-not}
 use Rattle.sets.specs.Masks.{has}
@@ -15,7 +17,9 @@ stage-of-requires c κs = search needs
 
 returns : tie.Need-returns
 unfolding responseRefused require
-returns c = rw (is-not (c .before .stage-of .ensures) (c .if1 .taken))
+returns c =
+    let other : eqb (stageOf (c .before .before .before .args .run)) 4 ≡ false = is-not (c .before .stage-of .ensures) (c .if1 .taken) in
+    rw other
 
 is-party-requires : tie.Need-is-party-requires
 is-party-requires c κs = search needs

@@ -1,6 +1,6 @@
 -- `shares_refused` meets its contract: the code asks what the definition asks, in its order. Assumes nothing.
 use mathlib.Core.Path.{_≡_, ap, sym, _∙_}
-use mathlib.Core.Bool.{Bool, not, _||_}
+use mathlib.Core.Bool.{Bool, not, _||_, false}
 use mathlib.Core.List.{List}
 use Prim.Native.Nat.{ℕ, _+_}
 use borrow.Author.Needs.{needs}
@@ -36,7 +36,9 @@ accepts-requires c κs = search needs
 
 returns-2 : tie.Need-returns-2
 unfolding sharesRefused require
-returns-2 c = rw (eq-eqb _ _ (c .before .before .if1 .left), fails (c .before .accepts .ensures) (c .if2 .taken))
+returns-2 c =
+    let none : isScalar (c .before .before .before .before .args .key) ≡ false = fails (c .before .accepts .ensures) (c .if2 .taken) in
+    rw (eq-eqb _ _ (c .before .before .if1 .left), none)
 
 unblamed-requires : tie.Need-unblamed-requires
 unblamed-requires c κs = search needs

@@ -1,7 +1,8 @@
 -- `Responses::interpolated` meets its contract. Assumes nothing.
 use borrow.Author.Needs.{needs}
 use native.Mathlib.Omega.{arith}
-use mathlib.Core.Path.{_∙_}
+use mathlib.Core.Path.{_∙_, _≡_, sym}
+use Rattle.interpolation.specs.Definitions.{slot}
 use Rattle.interpolation.specs.Bases.{weights-by}
 use Rattle.interpolation.specs.Laws.{slot-is}
 use Rattle.response.proofs.Rows.{phi-members}
@@ -24,8 +25,9 @@ returns : tie.Need-returns
 returns c =
     let weights = c .before .before in
     let start = weights .before .before .before in
+    let at : weights .before .point .result ≡ slot (start .args .k) = weights .before .point .ensures ∙ sym (slot-is (start .args .k)) in
     c .sum .ensures
-    ∙ rw (c .before .member-numbers .ensures, weights .weights .ensures, start .pre, weights-by, weights .before .point .ensures, ← slot-is)
+    ∙ rw (c .before .member-numbers .ensures, weights .weights .ensures, start .pre, weights-by, at)
     (phi-members (start .args .n) (start .args .self) (start .args .u) (start .args .k) (omega arith))
 
 pub interpolated-spec : {M : Type 1} → statement M
