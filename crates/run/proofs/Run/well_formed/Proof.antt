@@ -10,7 +10,9 @@ use Rattle.run.proofs.Run.well_formed.Tie as tie
 
 returns : tie.Need-returns
 unfolding wellFormed
-returns c = rw (lt-leb _ _ (c .if1 .taken))
+returns c =
+    let high : leb (c .before .before .args .self .stage) 6 ≡ false = lt-leb _ _ (c .if1 .taken) in
+    rw high
 
 in-bounds-requires : tie.Need-in-bounds-requires
 in-bounds-requires c κs = search needs
