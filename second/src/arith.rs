@@ -22,16 +22,25 @@ fn times(x: u32, y: u32, modulus: u32) -> u32 {
 }
 
 /// A power by the digits of the exponent in base 16, the highest first, from a
-/// table of the base's first sixteen powers.
+/// table of the base's first powers, as many as the digits ask for.
 fn power(base: u32, exponent: u32, modulus: u32) -> u32 {
+    let digits = (35 - exponent.leading_zeros()) / 4;
+    let digit = |place: u32| (exponent >> (4 * place) & 15) as usize;
+    let largest = (0..digits).map(digit).max().unwrap_or(0);
     let mut table = [1 % modulus; 16];
-    for digit in 1..16 {
-        table[digit] = times(table[digit - 1], base % modulus, modulus);
+    for power in 1..=largest {
+        table[power] = times(table[power - 1], base % modulus, modulus);
     }
-    (0..8).rev().fold(1 % modulus, |result, place| {
-        let raised = (0..4).fold(result, |value, _| times(value, value, modulus));
-        times(raised, table[(exponent >> (4 * place) & 15) as usize], modulus)
-    })
+    let mut result = 1 % modulus;
+    for place in (0..digits).rev() {
+        if place + 1 < digits {
+            for _ in 0..4 {
+                result = times(result, result, modulus);
+            }
+        }
+        result = times(result, table[digit(place)], modulus);
+    }
+    result
 }
 
 /// Whether a number from 1 to P-1 is a square modulo P, by the law of quadratic
