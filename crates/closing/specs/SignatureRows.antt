@@ -43,7 +43,8 @@ row-next r u k = ap (rowLines r u) (add-one k)
 -- one line more, u outer
 signatures-next : (r : Run) (u k : ℕ) → k < r .setup .a → signatureLines r (u * r .setup .a + k) ++ signatureLine r (u + 1) (k + 1) ≡ signatureLines r (suc (u * r .setup .a + k))
 unfolding signatureLines
-signatures-next r u k l = rw (digits-div u {m = r .setup .a} {r = k} l, digits-mod u {m = r .setup .a} {r = k} l)
+signatures-next r u k l =
+    ap₂ (λ (v c : ℕ). signatureLines r (u * r .setup .a + k) ++ signatureLine r (v + 1) (c + 1)) (sym (digits-div u {m = r .setup .a} {r = k} l)) (sym (digits-mod u {m = r .setup .a} {r = k} l))
 
 -- the first u rows, and k lines of the next
 rows-and : (r : Run) (u k : ℕ) → k ≤ r .setup .a → signatureLines r (u * r .setup .a) ++ rowLines r (u + 1) k ≡ signatureLines r (u * r .setup .a + k)

@@ -20,6 +20,20 @@ pub record Alike (w z : Transcript) : Type 0 where
   pub commitment-same : (i v : ℕ) → 0 < i → i ≤ w .n → w .qual i ≡ true → v < quorum (w .t) (w .a) → w .commitment i v ≡ z .commitment i v
   pub challenge-same : (u k : ℕ) → 0 < u → u ≤ batch (w .n) (w .t) → 0 < k → k ≤ w .a → w .challenge u k ≡ z .challenge u k
 
+-- what dealers outside QUAL committed to is free
+pub alike-outside : (w : Transcript) (other : ℕ → ℕ → Element) → ((i v : ℕ) → w .qual i ≡ true → w .commitment i v ≡ other i v)
+    → Alike w (record { n = w .n; t = w .t; a = w .a; key = w .key; qual = w .qual; commitment = other; challenge = w .challenge })
+alike-outside w other h =
+    record {
+      n-same = refl;
+      t-same = refl;
+      a-same = refl;
+      key-same = λ j l. refl;
+      qual-same = λ i p l. refl;
+      commitment-same = λ i v p l e c. h i v e;
+      challenge-same = λ u k p l x y. refl;
+    }
+
 module _ (w z : Transcript) (h : Alike w z) where
   dealing-same : (i : ℕ) (x : Scalar) → 0 < i → i ≤ w .n → w .qual i ≡ true → dealingAt (w .t) (w .a) (w .commitment i) x ≡ dealingAt (z .t) (z .a) (z .commitment i) x
   unfolding dealingAt
