@@ -1,27 +1,36 @@
-//! Every kind of request to the writers, good and refused.
+//! The streams of requests to the writers: good ones, refused ones, broken ones.
 
+use super::broken_calls::{broken_streams, mixed_stream};
+use super::document_calls::document_requests;
 use super::request_set::RequestSet;
 use super::run_calls::{re_requests, ve_requests};
 use super::value_calls::{de_requests, su_requests};
-use crate::requests::Request;
+use crate::requests::{framed, Request};
 use crate::rng::Rng;
 
 /// How many requests stand in one stream.
 const STREAM_LENGTH: usize = 10;
 
-/// The streams that a seed gives, as bytes.
+/// The streams that a seed gives, as bytes. The first is the same for every seed.
 pub fn all_streams(seed: u64) -> Vec<Vec<u8>> {
-    let requests = all_requests(seed);
-    let streams = requests.chunks(STREAM_LENGTH);
-    let encode = |stream: &[Request]| stream.iter().flat_map(Request::encode).collect();
-    streams.map(encode).collect()
+    let mut streams = vec![mixed_stream()];
+    streams.extend(whole_streams(seed));
+    streams.extend(broken_streams());
+    streams
 }
 
-/// Every request that a seed gives.
+/// Streams of whole requests.
+pub fn whole_streams(seed: u64) -> Vec<Vec<u8>> {
+    let encode = |request: &Request| framed(&request.encode());
+    let requests = all_requests(seed);
+    requests.chunks(STREAM_LENGTH).map(|stream| stream.iter().flat_map(encode).collect()).collect()
+}
+
+/// Every whole request that a seed gives.
 pub fn all_requests(seed: u64) -> Vec<Request> {
     let mut rng = Rng::new(seed);
     let mut gathered = RequestSet::default();
-    for group in [su_requests, de_requests, ve_requests, re_requests] {
+    for group in [document_requests, su_requests, de_requests, ve_requests, re_requests] {
         group(&mut gathered, &mut rng);
     }
     gathered.requests

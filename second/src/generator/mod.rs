@@ -10,14 +10,17 @@
 //! - `log_set`: logs gathered by kind
 //! - `edges`, `logs`: every kind of log
 //! - `request_set`: writer requests gathered, each with its intended number
-//! - `value_calls`, `run_calls`: every kind of writer request
+//! - `document_calls`, `value_calls`, `run_calls`: every kind of writer request
+//! - `broken_calls`: broken requests, and streams that are cut or too long
 //! - `calls`: every stream
 
+pub mod broken_calls;
 pub mod bytes;
 pub mod calls;
 pub mod committee;
 pub mod course;
 pub mod document;
+pub mod document_calls;
 pub mod draft;
 pub mod edges;
 pub mod log_set;

@@ -33,6 +33,12 @@ const OUTSIDE: [Triple; 12] = [
     (255, 255, 255),
 ];
 
+/// Counts of values that no writer takes.
+const OTHER_COUNTS: [usize; 5] = [0, 300, 1_024, 1_025, 2_000];
+
+/// Lengths of buffers that no record has.
+const OTHER_LENGTHS: [usize; 2] = [0, 65_535];
+
 fn su_request(params: Triple, s: u32, key_values: Vec<u32>, buffer_length: usize) -> Request {
     let call = Call::Su { params, s, key_values };
     Request { call, buffer_length: buffer_length as u16 }
@@ -86,8 +92,11 @@ fn su_values(gathered: &mut RequestSet) {
         gathered.add(su_request((4, 1, 1), s, vec![1], 14), number);
         gathered.add(su_request((4, 1, 1), 1, vec![s], 14), number);
     }
-    for (count, length, number) in [(0, 14, 10), (300, 14, 10), (1, 0, 9), (1, 65_535, 9)] {
-        gathered.add(su_request((4, 1, 1), 1, vec![2; count], length), number);
+    for count in OTHER_COUNTS {
+        gathered.add(su_request((4, 1, 1), 1, vec![2; count], 14), 10);
+    }
+    for length in OTHER_LENGTHS {
+        gathered.add(su_request((4, 1, 1), 1, vec![2], length), 9);
     }
 }
 
@@ -139,8 +148,11 @@ fn de_values(gathered: &mut RequestSet) {
         gathered.add(de_request(params, 3, vec![value, 0, 0, 0], 44), number);
         gathered.add(de_request(params, 3, vec![0, 0, 0, value], 44), number);
     }
-    for (count, length, number) in [(0, 44, 10), (300, 44, 10), (4, 0, 9), (4, 65_535, 9)] {
-        gathered.add(de_request(params, 3, vec![7; count], length), number);
+    for count in OTHER_COUNTS {
+        gathered.add(de_request(params, 3, vec![7; count], 44), 10);
+    }
+    for length in OTHER_LENGTHS {
+        gathered.add(de_request(params, 3, vec![7; 4], length), 9);
     }
 }
 
