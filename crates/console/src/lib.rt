@@ -2,7 +2,7 @@
 use libc::STDIN_FILENO;
 use libc::STDOUT_FILENO;
 
-// Whether standard input has ended: one more read gives nothing. It gives something else, or fails, where it has not.
+// Whether standard input has ended: one more read gives nothing, and does not fail.
 pub fn input_ended() -> bool {
     let mut more = [0u8; 1];
     libc::read(STDIN_FILENO, &mut more) == 0
