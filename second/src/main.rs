@@ -5,7 +5,7 @@ use second::coverage::Coverage;
 use second::generator::calls::all_streams;
 use second::generator::logs::all_logs;
 use second::report::report;
-use second::requests::{decode_stream, Request};
+use second::requests::answer_stream;
 use std::fs;
 use std::io::{self, Read, Write};
 use std::path::{Path, PathBuf};
@@ -71,9 +71,7 @@ fn page() -> io::Result<ExitCode> {
 
 fn write() -> io::Result<ExitCode> {
     let stream = read_input()?;
-    let requests = decode_stream(&stream).ok_or_else(|| invalid("the request stream is broken"))?;
-    let answers: String = requests.iter().map(Request::answer_line).collect();
-    io::stdout().write_all(answers.as_bytes())?;
+    io::stdout().write_all(answer_stream(&stream).as_bytes())?;
     Ok(ExitCode::SUCCESS)
 }
 

@@ -1,17 +1,32 @@
 //! The stream of requests to the writers: its format, reading it, answering it.
 //!
-//! Numbers stand high byte first. One byte gives the kind: 1 SU, 2 DE, 3 VE,
-//! 4 RE. Then:
+//! Numbers stand high byte first. A stream is requests end to end, each behind
+//! its length (4 bytes). One byte gives the kind: 1 SU, 2 DE, 3 VE, 4 RE. Then:
 //! - SU: n, t, a (1 byte each), s (4), count (2), values of F (4 each), buffer length (2)
 //! - DE: n, t, a, i (1 each), count (2), values of H_i (4 each), buffer length (2)
 //! - VE: log length (4), log, j (1), buffer length (2)
 //! - RE: log length (4), log, j (1), F(j) (4), count (2), shares (4 each), buffer length (2)
 //!
 //! A log is read from a fresh run, and the writer is called on the run it leaves.
+//!
+//! A request is broken where its kind is unknown, its log is longer than a log
+//! may be, or its bytes are not just as many as it says. It gets a line that says
+//! so, and reading goes on behind it. Where fewer bytes are left than a length
+//! takes or says, the rest is one broken request.
 
 use crate::log::read_log;
 use crate::refusal::answer_number;
+use crate::report::LONGEST_LOG;
 use crate::writers::{write_de, write_re, write_su, write_ve};
+
+/// The longest stream that is read.
+pub const LONGEST_STREAM: usize = 262_144;
+
+/// All that is answered to a longer one.
+const LONG: &str = "long\n";
+
+/// The answer to a broken request.
+const BROKEN: &str = "broken\n";
 
 /// What a buffer is filled with before the writer is called.
 const FILLER: u8 = 0xA5;
@@ -54,11 +69,18 @@ impl Request {
         format!("{number} {hex}\n")
     }
 
-    /// The request as it stands in a stream.
+    /// The request's bytes.
     pub fn encode(&self) -> Vec<u8> {
         let mut bytes = self.call.encode();
         bytes.extend(self.buffer_length.to_be_bytes());
         bytes
+    }
+
+    /// The request that has just these bytes; none if they are broken.
+    pub fn decode(bytes: &[u8]) -> Option<Request> {
+        let mut reader = Reader { rest: bytes };
+        let request = reader.request()?;
+        reader.rest.is_empty().then_some(request)
     }
 }
 
@@ -92,17 +114,32 @@ fn encode_log(log: &[u8]) -> Vec<u8> {
     [&length.to_be_bytes(), log].concat()
 }
 
-/// Every request of a stream; none if the stream is broken.
-pub fn decode_stream(stream: &[u8]) -> Option<Vec<Request>> {
-    let mut reader = Reader { rest: stream };
-    let mut requests = Vec::new();
-    while !reader.rest.is_empty() {
-        requests.push(reader.request()?);
-    }
-    Some(requests)
+/// A request's bytes behind their length, as they stand in a stream.
+pub fn framed(request: &[u8]) -> Vec<u8> {
+    let length = u32::try_from(request.len()).expect("a request fits its length");
+    [&length.to_be_bytes(), request].concat()
 }
 
-/// The part of a stream not read yet.
+/// The answers to a stream, a line each.
+pub fn answer_stream(stream: &[u8]) -> String {
+    if stream.len() > LONGEST_STREAM {
+        return LONG.to_string();
+    }
+    let mut reader = Reader { rest: stream };
+    let mut answers = String::new();
+    while !reader.rest.is_empty() {
+        answers += &line_for(reader.frame());
+    }
+    answers
+}
+
+/// The answer to a request of a stream; none is a cut one.
+fn line_for(bytes: Option<&[u8]>) -> String {
+    let request = bytes.and_then(Request::decode);
+    request.map_or_else(|| BROKEN.to_string(), |request| request.answer_line())
+}
+
+/// The part of a stream, or of a request, that is not read yet.
 struct Reader<'a> {
     rest: &'a [u8],
 }
@@ -137,8 +174,9 @@ impl<'a> Reader<'a> {
     }
 
     fn log(&mut self) -> Option<Vec<u8>> {
-        let length = self.four()?;
-        self.bytes(length as usize).map(<[u8]>::to_vec)
+        let length = self.four()? as usize;
+        let log = self.bytes(length)?;
+        (length <= LONGEST_LOG).then(|| log.to_vec())
     }
 
     fn call(&mut self) -> Option<Call> {
@@ -160,5 +198,15 @@ impl<'a> Reader<'a> {
 
     fn request(&mut self) -> Option<Request> {
         Some(Request { call: self.call()?, buffer_length: self.two()? })
+    }
+
+    /// The bytes of a stream's next request; none, and nothing is left, if it is cut.
+    fn frame(&mut self) -> Option<&'a [u8]> {
+        let length = self.four();
+        let request = length.and_then(|length| self.bytes(length as usize));
+        if request.is_none() {
+            self.rest = &[];
+        }
+        request
     }
 }

@@ -2,7 +2,8 @@
 
 use second::coverage::Coverage;
 use second::generator::document::{plain_setup, record, up_to_challenges, worked};
-use second::generator::logs::{all_logs, NamedLog};
+use second::generator::log_set::NamedLog;
+use second::generator::logs::all_logs;
 use second::report::{report, LONGEST_LOG};
 use std::sync::OnceLock;
 

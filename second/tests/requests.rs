@@ -1,14 +1,22 @@
 //! The request stream and the writers' answers.
 
-use second::generator::calls::{all_requests, all_streams};
-use second::requests::{decode_stream, Call, Request};
+use second::generator::broken_calls::{broken_requests, broken_streams, mixed_stream};
+use second::generator::calls::{all_requests, whole_streams};
+use second::generator::document::{response, up_to_challenges, up_to_dealings};
+use second::requests::{answer_stream, framed, Call, Request, LONGEST_STREAM};
 use std::collections::BTreeSet;
+
+/// A good request, with its answer.
+fn setup() -> (Vec<u8>, &'static str) {
+    let call = Call::Su { params: (4, 1, 1), s: 1, key_values: vec![2] };
+    let request = Request { call, buffer_length: 14 };
+    (framed(&request.encode()), "0 5355040101000000000400000010\n")
+}
 
 #[test]
 fn a_setup_is_written() {
-    let call = Call::Su { params: (4, 1, 1), s: 1, key_values: vec![2] };
-    let request = Request { call, buffer_length: 14 };
-    assert_eq!(request.answer_line(), "0 5355040101000000000400000010\n");
+    let (stream, answer) = setup();
+    assert_eq!(answer_stream(&stream), answer);
 }
 
 #[test]
@@ -26,16 +34,60 @@ fn a_refusal_leaves_the_buffer() {
     assert_eq!(Request { call, buffer_length: 0 }.answer_line(), "4 \n");
 }
 
+/// The first requests give the records of the worked log, CH aside.
+#[test]
+fn the_worked_log_is_written() {
+    let requests = all_requests(1);
+    let written = |range: std::ops::Range<usize>| -> Vec<u8> {
+        requests[range].iter().flat_map(|request| request.answer().1).collect()
+    };
+    let dealt = up_to_dealings(1, 4);
+    assert_eq!(written(0..4), dealt);
+    assert_eq!(written(4..7), up_to_challenges()[dealt.len()..][..3 * 8]);
+    assert_eq!(written(7..9), [response(2, [10, 22]), response(3, [13, 28])].concat());
+}
+
 #[test]
 fn streams_are_read_as_written() {
-    let lines = |requests: &[Request]| -> Vec<String> {
-        requests.iter().map(Request::answer_line).collect()
-    };
-    let stream = all_streams(1).concat();
-    let read = decode_stream(&stream).expect("a whole stream");
-    assert_eq!(lines(&read), lines(&all_requests(1)));
-    assert!(decode_stream(&stream[..stream.len() - 1]).is_none());
-    assert!(decode_stream(&[5]).is_none());
+    let lines: String = all_requests(1).iter().map(Request::answer_line).collect();
+    let read: String = whole_streams(1).iter().map(|stream| answer_stream(stream)).collect();
+    assert_eq!(read, lines);
+}
+
+#[test]
+fn a_broken_request_is_passed_over() {
+    let (good, answer) = setup();
+    for broken in broken_requests() {
+        let stream = [&good[..], &framed(&broken), &good].concat();
+        assert_eq!(answer_stream(&stream), format!("{answer}broken\n{answer}"), "{broken:?}");
+    }
+}
+
+#[test]
+fn a_cut_request_is_the_last() {
+    let (good, answer) = setup();
+    for length in 1..good.len() {
+        let stream = [&good, &good[..length]].concat();
+        assert_eq!(answer_stream(&stream), format!("{answer}broken\n"));
+    }
+    assert_eq!(answer_stream(b""), "");
+    assert_eq!(answer_stream(b"SU 4 1 1 1 2 14\n"), "broken\n");
+}
+
+#[test]
+fn the_longest_stream_is_read() {
+    let answers = answer_stream(&vec![0; LONGEST_STREAM]);
+    assert_eq!(answers, "broken\n".repeat(LONGEST_STREAM / 4));
+    assert_eq!(answer_stream(&vec![0; LONGEST_STREAM + 1]), "long\n");
+}
+
+#[test]
+fn broken_streams_say_so() {
+    let streams = [vec![mixed_stream()], broken_streams()].concat();
+    let answers: Vec<String> = streams.iter().map(|stream| answer_stream(stream)).collect();
+    assert!(answers[0].contains("\nbroken\n0 ") && answers[0].ends_with("\nbroken\n"));
+    let said = |word: &str| answers.iter().filter(|text| text.contains(word)).count();
+    assert_eq!((said("long"), said("broken")), (2, streams.len() - 4));
 }
 
 #[test]

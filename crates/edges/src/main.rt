@@ -1,18 +1,13 @@
 // Prints the arithmetic at the edges of its ranges: a line for each number, then a line for each two.
+use console::end_line;
+use console::print_test;
 use field::Element;
 use field::Scalar;
 
-fn print(x: u32) {
-    io::print_decimal(1, x as u64);
-    io::write_all(1, b" ");
-}
+const COUNT: usize = 9;
 
-fn print_test(passed: bool) {
-    if passed {
-        io::write_all(1, b"yes ");
-    } else {
-        io::write_all(1, b"no ");
-    }
+fn print(x: u32) {
+    console::print_number(x as u64);
 }
 
 // The number; whether it is a scalar, an element; its remainder, its inverse; its power 3; 4 to it.
@@ -24,7 +19,7 @@ fn single(x: u32) {
     print(Scalar(x).inverse().0);
     print(Scalar(x).power(3).0);
     print(Element::GENERATOR.pow(Scalar(x)).0);
-    io::write_all(1, b"\n");
+    end_line();
 }
 
 // Two numbers; sum, difference and product of scalars; product and power of elements.
@@ -36,27 +31,35 @@ fn pair(x: u32, y: u32) {
     print(Scalar(x).mul(Scalar(y)).0);
     print(Element(x).mul(Element(y)).0);
     print(Element(x).pow(Scalar(y)).0);
-    io::write_all(1, b"\n");
+    end_line();
+}
+
+fn singles(edges: [u32; COUNT]) {
+    for i in 0..COUNT {
+        single(edges[i]);
+    }
+}
+
+fn pairs(edges: [u32; COUNT]) {
+    for i in 0..COUNT {
+        for j in 0..COUNT {
+            pair(edges[i], edges[j]);
+        }
+    }
 }
 
 fn main() {
-    let edges: [u32; 9] = [
+    let edges: [u32; COUNT] = [
         0,
         1,
         2,
         4,
-        500000002,
-        500000003,
-        1000000006,
-        1000000007,
-        4294967295,
+        Scalar::MODULUS - 1,
+        Scalar::MODULUS,
+        Element::MODULUS - 1,
+        Element::MODULUS,
+        u32::MAX,
     ];
-    for i in 0..9 {
-        single(edges[i]);
-    }
-    for i in 0..9 {
-        for j in 0..9 {
-            pair(edges[i], edges[j]);
-        }
-    }
+    singles(edges);
+    pairs(edges);
 }

@@ -1,10 +1,19 @@
-// Reads a stream of requests to the writers on standard input and prints for each the number that the writer answers and the buffer in hex. A request is a
-// kind (1 SU, 2 DE, 3 VE, 4 RE), what that writer is given, and the buffer's length; numbers are high byte first.
-ghost use Prim.Native.Nat.{_≤_};
+// Reads a stream of requests to the writers on standard input and prints for each the number that the writer answers and the buffer in hex, or that
+// the request is broken. docs/FORMATS.md says what a request is.
+ghost use Prim.Native.Nat.{_≤_, _<_};
+ghost use lib.ListN.{length};
+use libc::STDERR_FILENO;
+use libc::STDIN_FILENO;
+use libc::STDOUT_FILENO;
 use run::Run;
 
+// The bytes of a number, and of a count or a buffer's length.
+const NUMBER: usize = 4;
+
+const COUNT: usize = 2;
+
 // A number of two bytes.
-fn pair(s: &[u8], at: usize) -> usize
+fn two(s: &[u8], at: usize) -> usize
     requires { ⌜ at ≤ 16777216 ⌝ }
     ensures { λ r. ⌜ r ≤ 65535 ⌝ }
 {
@@ -20,39 +29,43 @@ fn four(s: &[u8], at: usize) -> u32
 
 // The numbers from a place on, as many as the list has room for.
 fn load(s: &[u8], at: usize, list: &mut [u32])
-    requires { ⌜ at ≤ 8388608 ⌝ }
+    requires { ⌜ at ≤ 65536 ⌝ }
+    requires { ⌜ length (now list) ≤ 65535 ⌝ }
 {
-    for i in 0..1024 {
-        if i < list.len() {
-            list[i] = four(s, at + 4 * i);
-        }
+    let count = list.len();
+    for i in 0..count {
+        list[i] = four(s, at + NUMBER * i);
     }
 }
 
-// A buffer as it is lent: every byte 165.
-fn clear(out: &mut [u8]) {
-    for i in 0..65536 {
-        if i < out.len() {
-            out[i] = 165;
-        }
+// What a buffer is filled with before it is lent.
+const FILLER: u8 = 165;
+
+fn fill(out: &mut [u8]) {
+    let size = out.len();
+    for i in 0..size {
+        out[i] = FILLER;
     }
 }
 
 // A byte as two digits of base sixteen.
 fn print_byte(byte: u8) {
-    io::print_hex(1, byte as u64, 2);
+    io::print_hex(STDOUT_FILENO, byte as u64, 2);
 }
 
-// The answer's number, and the buffer.
+// The line of an answer: its number, and the buffer.
 fn answer(number: u8, out: &[u8]) {
-    io::print_decimal(1, number as u64);
-    io::write_all(1, b" ");
-    for i in 0..65536 {
-        if i < out.len() {
-            print_byte(out[i]);
-        }
+    console::print_number(number as u64);
+    let size = out.len();
+    for i in 0..size {
+        print_byte(out[i]);
     }
-    io::write_all(1, b"\n");
+    console::end_line();
+}
+
+// The line of a broken request.
+fn answer_broken() {
+    io::write_all(STDOUT_FILENO, b"broken\n");
 }
 
 // The length of a log's next record, or of the rest.
@@ -67,11 +80,14 @@ fn next_length(run: Run, rest: &[u8]) -> usize {
     size
 }
 
-// The run after a log of at most 65,536 bytes.
+// The most bytes of a log.
+const LOG: usize = 65536;
+
+// The run after a log.
 fn run_of(log: &[u8]) -> Run {
     let mut run = Run::fresh();
     let mut from: usize = 0;
-    let turns: usize = 65536;
+    let turns: usize = LOG;
     for _ in 0..turns {
         if from < log.len() {
             let rest = &log[from..];
@@ -86,155 +102,188 @@ fn run_of(log: &[u8]) -> Run {
     run
 }
 
-// SU: n, t, a, s, the shares, the buffer's length. The place after it, or the same place where the request is broken.
-fn setup(s: &[u8], at: usize, list: &mut [u32], out: &mut [u8]) -> usize
-    requires { ⌜ at ≤ 4194304 ⌝ }
-{
-    let count = pair(s, at + 7);
-    let room = pair(s, at + 9 + 4 * count);
-    if list.len() < count {
-        return at;
-    }
-    if out.len() < room {
-        return at;
-    }
-    load(s, at + 9, list);
-    let number = dealer::write_setup(
-        records::byte(s, at),
-        records::byte(s, at + 1),
-        records::byte(s, at + 2),
-        four(s, at + 3),
-        &list[..count],
-        &mut out[..room],
-    );
-    answer(number, &out[..room]);
-    at + 11 + 4 * count
-}
+// The kinds of request.
+const SETUP: u8 = 1;
 
-// DE: n, t, a, i, the values, the buffer's length.
-fn dealing(s: &[u8], at: usize, list: &mut [u32], out: &mut [u8]) -> usize
-    requires { ⌜ at ≤ 4194304 ⌝ }
-{
-    let count = pair(s, at + 4);
-    let room = pair(s, at + 6 + 4 * count);
-    if list.len() < count {
-        return at;
-    }
-    if out.len() < room {
-        return at;
-    }
-    load(s, at + 6, list);
-    let number = dealer::write_dealing(
-        records::byte(s, at),
-        records::byte(s, at + 1),
-        records::byte(s, at + 2),
-        records::byte(s, at + 3),
-        &list[..count],
-        &mut out[..room],
-    );
-    answer(number, &out[..room]);
-    at + 8 + 4 * count
-}
+const DEALING: u8 = 2;
 
-// VE: the run by its log, j, the buffer's length.
-fn complaint(s: &[u8], at: usize, run: Run, out: &mut [u8]) -> usize
-    requires { ⌜ at ≤ 4194304 ⌝ }
-{
-    let room = pair(s, at + 1);
-    if out.len() < room {
-        return at;
-    }
-    let number = writers::write_complaint(run, records::byte(s, at), &mut out[..room]);
-    answer(number, &out[..room]);
-    at + 3
-}
+const COMPLAINT: u8 = 3;
 
-// RE: the run by its log, j, F(j), the shares, the buffer's length.
-fn response(s: &[u8], at: usize, run: Run, list: &mut [u32], out: &mut [u8]) -> usize
-    requires { ⌜ at ≤ 4194304 ⌝ }
-{
-    let count = pair(s, at + 5);
-    let room = pair(s, at + 7 + 4 * count);
-    if list.len() < count {
-        return at;
-    }
-    if out.len() < room {
-        return at;
-    }
-    load(s, at + 7, list);
-    let number = writers::write_response(
-        run,
-        records::byte(s, at),
-        four(s, at + 1),
-        &list[..count],
-        &mut out[..room],
-    );
-    answer(number, &out[..room]);
-    at + 9 + 4 * count
-}
+const RESPONSE: u8 = 4;
 
-// One request; the place after it, or 0 where it is broken.
-fn serve(s: &[u8], at: usize, list: &mut [u32], out: &mut [u8]) -> usize
-    requires { ⌜ at ≤ 1048576 ⌝ }
+// The bytes of the fields before the values: n, t, a, s; n, t, a, i; j; j, F(j).
+const SETUP_FIELDS: usize = 7;
+
+const DEALING_FIELDS: usize = 4;
+
+const COMPLAINT_FIELDS: usize = 1;
+
+const RESPONSE_FIELDS: usize = 5;
+
+// How many values a request says that it has; a complaint has none.
+fn values_count(kind: u8, s: &[u8]) -> usize
+    ensures { λ r. ⌜ r ≤ 65535 ⌝ }
 {
-    clear(out);
-    let kind = records::byte(s, at);
-    if kind == 1 {
-        return setup(s, at + 1, list, out);
+    if kind == SETUP {
+        return two(s, SETUP_FIELDS);
     }
-    if kind == 2 {
-        return dealing(s, at + 1, list, out);
+    if kind == DEALING {
+        return two(s, DEALING_FIELDS);
     }
-    let size = four(s, at + 1) as usize;
-    let from = at + 5;
-    if 65536 < size {
-        return 0;
-    }
-    let end = from + size;
-    if s.len() < end {
-        return 0;
-    }
-    if 4194304 < end {
-        return 0;
-    }
-    let run = run_of(&s[from..end]);
-    if kind == 3 {
-        return complaint(s, end, run, out);
-    }
-    if kind == 4 {
-        return response(s, end, run, list, out);
+    if kind == RESPONSE {
+        return two(s, RESPONSE_FIELDS);
     }
     0
 }
 
-// The place after the request at a place, or the end where there is none or it is broken.
-fn advance(s: &[u8], at: usize, list: &mut [u32], out: &mut [u8]) -> usize {
-    if s.len() <= at {
-        return at;
+// Where they stand: after the fields, and but for a complaint after their count.
+fn values_from(kind: u8) -> usize
+    ensures { λ r. ⌜ r ≤ 16 ⌝ }
+{
+    if kind == SETUP {
+        return SETUP_FIELDS + COUNT;
     }
-    if 1048576 < at {
-        return s.len();
+    if kind == DEALING {
+        return DEALING_FIELDS + COUNT;
     }
-    let next = serve(s, at, list, out);
-    if next <= at {
-        return s.len();
+    if kind == RESPONSE {
+        return RESPONSE_FIELDS + COUNT;
     }
-    next
+    COMPLAINT_FIELDS
 }
 
-// Every request of a stream of at most 65,536 bytes.
-fn serve_all(s: &[u8], list: &mut [u32], out: &mut [u8]) {
+// The writer's answer to a request of this kind, from its fields and its values.
+fn write(kind: u8, run: Run, s: &[u8], values: &[u32], out: &mut [u8]) -> u8 {
+    let first = records::byte(s, 0);
+    let second = records::byte(s, 1);
+    let third = records::byte(s, 2);
+    if kind == SETUP {
+        return dealer::write_setup(first, second, third, four(s, 3), values, out);
+    }
+    if kind == DEALING {
+        let i = records::byte(s, 3);
+        return dealer::write_dealing(first, second, third, i, values, out);
+    }
+    if kind == RESPONSE {
+        return writers::write_response(run, first, four(s, 1), values, out);
+    }
+    writers::write_complaint(run, first, out)
+}
+
+// Answers a request of a known kind from what follows the kind, or the log: fields, values, the buffer's length.
+fn serve_fields(kind: u8, run: Run, s: &[u8], list: &mut [u32], out: &mut [u8])
+    requires { ⌜ 65535 ≤ length (now list) ⌝ }
+    requires { ⌜ 65535 ≤ length (now out) ⌝ }
+{
+    let count = values_count(kind, s);
+    let from = values_from(kind);
+    let end = from + NUMBER * count;
+    if s.len() != end + COUNT {
+        answer_broken();
+        return;
+    }
+    let room = two(s, end);
+    load(s, from, &mut list[..count]);
+    fill(&mut out[..room]);
+    let number = write(kind, run, s, &list[..count], &mut out[..room]);
+    answer(number, &out[..room]);
+}
+
+// Answers a VE or RE, from what follows the kind: the length of the log, the log, and the rest.
+fn serve_log(kind: u8, s: &[u8], list: &mut [u32], out: &mut [u8])
+    requires { ⌜ 65535 ≤ length (now list) ⌝ }
+    requires { ⌜ 65535 ≤ length (now out) ⌝ }
+{
+    let size = four(s, 0) as usize;
+    if LOG < size {
+        answer_broken();
+        return;
+    }
+    let end = NUMBER + size;
+    if s.len() < end {
+        answer_broken();
+        return;
+    }
+    let run = run_of(&s[NUMBER..end]);
+    serve_fields(kind, run, &s[end..], list, out);
+}
+
+// Answers one request.
+fn serve(request: &[u8], list: &mut [u32], out: &mut [u8])
+    requires { ⌜ 65535 ≤ length (now list) ⌝ }
+    requires { ⌜ 65535 ≤ length (now out) ⌝ }
+{
+    if request.len() < 1 {
+        answer_broken();
+        return;
+    }
+    let kind = records::byte(request, 0);
+    if kind == SETUP || kind == DEALING {
+        serve_fields(kind, Run::fresh(), &request[1..], list, out);
+        return;
+    }
+    if kind == COMPLAINT || kind == RESPONSE {
+        serve_log(kind, &request[1..], list, out);
+        return;
+    }
+    answer_broken();
+}
+
+// Answers the request that a stream goes on with, and returns how many bytes it took with its length: all that are left where it is cut.
+fn serve_next(rest: &[u8], list: &mut [u32], out: &mut [u8]) -> usize
+    requires { ⌜ 0 < length (now rest) ⌝ }
+    requires { ⌜ 65535 ≤ length (now list) ⌝ }
+    requires { ⌜ 65535 ≤ length (now out) ⌝ }
+    ensures { λ r. ⌜ (0 < r) × (r ≤ length (now (rest .entry))) ⌝ }
+{
+    let left = rest.len();
+    if left < NUMBER {
+        answer_broken();
+        return left;
+    }
+    let size = four(rest, 0) as usize;
+    if left - NUMBER < size {
+        answer_broken();
+        return left;
+    }
+    let end = NUMBER + size;
+    serve(&rest[NUMBER..end], list, out);
+    end
+}
+
+// Answers every request of a stream.
+fn serve_all(s: &[u8], list: &mut [u32], out: &mut [u8])
+    requires { ⌜ 65535 ≤ length (now list) ⌝ }
+    requires { ⌜ 65535 ≤ length (now out) ⌝ }
+{
     let mut at: usize = 0;
-    let turns: usize = 65536;
-    for _ in 0..turns {
-        at = advance(s, at, list, out);
+    while at < s.len() {
+        let rest = &s[at..];
+        at += serve_next(rest, list, out);
     }
 }
+
+// The most bytes of a stream.
+const STREAM: usize = 262144;
+
+// Room for as many values, and for as long a buffer, as two bytes can say.
+const VALUES: usize = 65535;
+
+const BUFFER: usize = 65535;
 
 fn main() {
-    let mut stream = [0u8; 65536];
-    let got = io::read_full(0, &mut stream);
-    let mut list = [0u32; 1024];
-    let mut out = [0u8; 65536];
+    // One byte more than a stream may have, so that one which is too long is seen.
+    let mut stream = [0u8; STREAM + 1];
+    let got = io::read_full(STDIN_FILENO, &mut stream);
+    if STREAM < got {
+        io::write_all(STDOUT_FILENO, b"long\n");
+        return;
+    }
+    if !console::input_ended() {
+        io::write_all(STDERR_FILENO, b"scribe: the requests could not be read\n");
+        return;
+    }
+    let mut list = [0u32; VALUES];
+    let mut out = [0u8; BUFFER];
     serve_all(&stream[..got], &mut list, &mut out);
 }

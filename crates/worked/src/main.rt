@@ -1,63 +1,72 @@
-// Gives the worked log of document 01 and its cases A to L to the run, record by record, and prints each reply.
-use answers::Nonce;
-use answers::Signature;
+// Prints cases A to L of document 01, each on a line that begins with its letter: what the run replies to the records of the case, one number each, or what the
+// arithmetic gives; last the replies to records that are none.
+use console::end_line;
+use console::print_number;
+use console::print_test;
+use field::Element;
+use field::Scalar;
+use interpolation::Row;
+use libc::STDOUT_FILENO;
+use replies::give;
 use run::Run;
 
-fn print(x: u64) {
-    io::print_decimal(1, x);
-    io::write_all(1, b" ");
+fn begin_line(letter: &[u8]) {
+    io::write_all(STDOUT_FILENO, letter);
 }
 
-// Gives a record to a run and prints the number of the reply.
-fn give(run: Run, bytes: &[u8]) -> Run {
-    let reply = run.step(bytes);
-    print(reply.number as u64);
-    reply.run
-}
-
-fn print_nonce(answer: Nonce) {
-    match answer {
-        Nonce::Is(r) => print(r.0 as u64),
-        Nonce::None => {
-            io::write_all(1, b"none ");
-        }
-    }
-}
-
-fn print_signature(answer: Signature) {
-    match answer {
-        Signature::Is(phi) => print(phi.0 as u64),
-        Signature::None => {
-            io::write_all(1, b"none ");
-        }
-    }
-}
-
-// HOLD, QUAL and BAD as masks; R and phi of (1,1), (2,1) and (3,1), the last outside the batch; the stage.
+// HOLD, QUAL and BAD as masks; R and φ of (1,1), (2,1) and (3,1), the last outside the batch; the stage.
 fn say(run: Run) {
-    let sets = answers::sets_of(run);
-    print(sets.hold);
-    print(sets.qual);
-    print(sets.bad);
-    for u in 1..4 {
-        print_nonce(answers::nonce_at(run, u, 1));
-        print_signature(answers::signature_at(run, u, 1));
-    }
-    print(run.stage_of() as u64);
-    io::write_all(1, b"\n");
+    replies::print_sets(run);
+    replies::print_signature(run, 1, 1);
+    replies::print_signature(run, 2, 1);
+    replies::print_signature(run, 3, 1);
+    replies::print_stage(run);
+    end_line();
 }
 
-// The worked log up to the dealings, with the shares of dealers 2 and 3 as records.
-fn deal(second: &[u8], third: &[u8]) -> Run {
-    let begun = give(
+// A run of 4, 1, 1 with the keys of the worked log.
+fn set_up() -> Run {
+    give(
         Run::fresh(),
         b"SU\x04\x01\x01\x00\x00\x00\x00\x04\x00\x00\x00\x10",
-    );
-    let first = give(
-        begun,
+    )
+}
+
+// The dealing of dealer 2, with the share for 2 as it should be, 1, or as 2.
+fn deal_second(run: Run, right: bool) -> Run {
+    if right {
+        return give(
+            run,
+            b"DE\x02\x00\x00\x00\x00\x04\x00\x00\x00\x04\x00\x00\x00\x01\x00\x00\x00\x01\x00\x00\x00\x01\x00\x00\x00\x01",
+        );
+    }
+    give(
+        run,
+        b"DE\x02\x00\x00\x00\x00\x04\x00\x00\x00\x04\x00\x00\x00\x01\x00\x00\x00\x02\x00\x00\x00\x01\x00\x00\x00\x01",
+    )
+}
+
+// The dealing of dealer 3, with the share for 2 as it should be, 4, or as 5.
+fn deal_third(run: Run, right: bool) -> Run {
+    if right {
+        return give(
+            run,
+            b"DE\x03\x00\x00\x00\x00\x10\x00\x00\x00\x40\x00\x00\x00\x03\x00\x00\x00\x04\x00\x00\x00\x05\x00\x00\x00\x06",
+        );
+    }
+    give(
+        run,
+        b"DE\x03\x00\x00\x00\x00\x10\x00\x00\x00\x40\x00\x00\x00\x03\x00\x00\x00\x05\x00\x00\x00\x05\x00\x00\x00\x06",
+    )
+}
+
+// The worked log up to the dealings.
+fn deal(second_right: bool, third_right: bool) -> Run {
+    let begun = give(
+        set_up(),
         b"DE\x01\x00\x00\x00\x00\x01\x00\x00\x00\x04\x00\x00\x00\x01\x00\x00\x00\x02\x00\x00\x00\x03\x00\x00\x00\x04",
     );
-    give(give(first, second), third)
+    deal_third(deal_second(begun, second_right), third_right)
 }
 
 // Up to the challenges, with a complaint row from holder 2.
@@ -68,80 +77,114 @@ fn challenge(dealt: Run, row: &[u8]) -> Run {
     give(all, b"CH\x00\x00\x00\x00\x00\x01\x00\x00\x00\x02")
 }
 
-// (A), (B), (C): the worked log, and rows that are refused right after its challenges.
+// (A) the worked log; (B), (C): rows that are refused right after its challenges.
 fn worked() {
-    let run = challenge(
-        deal(
-            b"DE\x02\x00\x00\x00\x00\x04\x00\x00\x00\x04\x00\x00\x00\x01\x00\x00\x00\x01\x00\x00\x00\x01\x00\x00\x00\x01",
-            b"DE\x03\x00\x00\x00\x00\x10\x00\x00\x00\x40\x00\x00\x00\x03\x00\x00\x00\x04\x00\x00\x00\x05\x00\x00\x00\x06",
-        ),
-        b"VE\x02\x00\x00\x00\x00\x00",
-    );
-    give(run, b"RE\x01\x00\x00\x00\x00\x00\x00\x00\x00\x00");
-    give(run, b"RE\x02\x00\x00\x00\x00\x0b\x00\x00\x00\x16");
+    begin_line(b"A ");
+    let run = challenge(deal(true, true), b"VE\x02\x00\x00\x00\x00\x00");
     let one = give(run, b"RE\x02\x00\x00\x00\x00\x0a\x00\x00\x00\x16");
     say(give(one, b"RE\x03\x00\x00\x00\x00\x0d\x00\x00\x00\x1c"));
+    begin_line(b"B ");
+    give(run, b"RE\x01\x00\x00\x00\x00\x00\x00\x00\x00\x00");
+    end_line();
+    begin_line(b"C ");
+    give(run, b"RE\x02\x00\x00\x00\x00\x0b\x00\x00\x00\x16");
+    end_line();
 }
 
 // (D): dealer 3's share for 2 is wrong and blamed.
 fn blamed() {
-    let run = challenge(
-        deal(
-            b"DE\x02\x00\x00\x00\x00\x04\x00\x00\x00\x04\x00\x00\x00\x01\x00\x00\x00\x01\x00\x00\x00\x01\x00\x00\x00\x01",
-            b"DE\x03\x00\x00\x00\x00\x10\x00\x00\x00\x40\x00\x00\x00\x03\x00\x00\x00\x05\x00\x00\x00\x05\x00\x00\x00\x06",
-        ),
-        b"VE\x02\x00\x00\x00\x00\x04",
-    );
+    begin_line(b"D ");
+    let run = challenge(deal(true, false), b"VE\x02\x00\x00\x00\x00\x04");
     let one = give(run, b"RE\x02\x00\x00\x00\x00\x06\x00\x00\x00\x0a");
     say(give(one, b"RE\x03\x00\x00\x00\x00\x08\x00\x00\x00\x0d"));
 }
 
-// (E): a false blame; (L): more than t blamed, so that nothing is taken after.
-fn complaints() {
-    give(
-        deal(
-            b"DE\x02\x00\x00\x00\x00\x04\x00\x00\x00\x04\x00\x00\x00\x01\x00\x00\x00\x01\x00\x00\x00\x01\x00\x00\x00\x01",
-            b"DE\x03\x00\x00\x00\x00\x10\x00\x00\x00\x40\x00\x00\x00\x03\x00\x00\x00\x04\x00\x00\x00\x05\x00\x00\x00\x06",
-        ),
-        b"VE\x02\x00\x00\x00\x00\x04",
-    );
-    io::write_all(1, b"\n");
-    say(challenge(
-        deal(
-            b"DE\x02\x00\x00\x00\x00\x04\x00\x00\x00\x04\x00\x00\x00\x01\x00\x00\x00\x02\x00\x00\x00\x01\x00\x00\x00\x01",
-            b"DE\x03\x00\x00\x00\x00\x10\x00\x00\x00\x40\x00\x00\x00\x03\x00\x00\x00\x05\x00\x00\x00\x05\x00\x00\x00\x06",
-        ),
-        b"VE\x02\x00\x00\x00\x00\x06",
-    ));
+// (E): a false blame.
+fn false_blame() {
+    begin_line(b"E ");
+    give(deal(true, true), b"VE\x02\x00\x00\x00\x00\x04");
+    end_line();
 }
 
-// (F), (G), (H): bounds and ranges; and records that are none.
-fn edges() {
+// (F), (G): parameters within the bounds, and outside.
+fn bounds() {
     let fresh = Run::fresh();
-    give(fresh, b"SU\x04\x01\x01\x00\x00\x00\x00\x04\x00\x00\x00\x10");
+    begin_line(b"F ");
+    set_up();
     give(fresh, b"SU\x20\x01\x0f\x00\x00\x00\x00\x04\x00\x00\x00\x10");
+    end_line();
+    begin_line(b"G ");
     give(fresh, b"SU\x03\x01\x01\x00\x00\x00\x00\x04\x00\x00\x00\x10");
     give(fresh, b"SU\x20\x01\x10\x00\x00\x00\x00\x04\x00\x00\x00\x10");
-    let begun = give(fresh, b"SU\x04\x01\x01\x00\x00\x00\x00\x04\x00\x00\x00\x10");
+    end_line();
+}
+
+// (H): the greatest scalar as a share, and q.
+fn scalars() {
+    begin_line(b"H ");
+    let begun = set_up();
     give(
         begun,
-        b"DE\x01\x00\x00\x00\x00\x01\x00\x00\x00\x04\x1d\xcde\x02\x00\x00\x00\x02\x00\x00\x00\x03\x00\x00\x00\x04",
+        b"DE\x01\x00\x00\x00\x00\x01\x00\x00\x00\x04\x1d\xcd\x65\x02\x00\x00\x00\x02\x00\x00\x00\x03\x00\x00\x00\x04",
     );
     give(
         begun,
-        b"DE\x01\x00\x00\x00\x00\x01\x00\x00\x00\x04\x1d\xcde\x03\x00\x00\x00\x02\x00\x00\x00\x03\x00\x00\x00\x04",
+        b"DE\x01\x00\x00\x00\x00\x01\x00\x00\x00\x04\x1d\xcd\x65\x03\x00\x00\x00\x02\x00\x00\x00\x03\x00\x00\x00\x04",
     );
+    end_line();
+}
+
+fn print_scalar(x: Scalar) {
+    print_number(x.0 as u64);
+}
+
+// (I): 4 and P-1 as elements; (J): the inverse of 2; (K): the weights of the points 2 and 3 at 0.
+fn arithmetic() {
+    begin_line(b"I ");
+    print_test(Element::accepts(4));
+    print_test(Element::accepts(Element::MODULUS - 1));
+    end_line();
+    begin_line(b"J ");
+    print_scalar(Scalar(2).inverse());
+    end_line();
+    begin_line(b"K ");
+    let mut points = [Scalar::ZERO; 64];
+    points[0] = Scalar(2);
+    points[1] = Scalar(3);
+    let weights = Row {
+        at: points,
+        count: 2,
+    }.weights(Scalar::ZERO);
+    print_scalar(weights.at[0]);
+    print_scalar(weights.at[1]);
+    end_line();
+}
+
+// (L): more than t blamed, so that nothing is taken after.
+fn too_many_blamed() {
+    begin_line(b"L ");
+    say(challenge(deal(false, false), b"VE\x02\x00\x00\x00\x00\x06"));
+}
+
+// Records that are none: no byte, one byte, a tag alone, no tag, and a setup that is late.
+fn senseless() {
+    begin_line(b"none ");
+    let begun = set_up();
     give(begun, b"");
     give(begun, b"D");
     give(begun, b"DE");
     give(begun, b"XX");
     give(begun, b"SU");
-    io::write_all(1, b"\n");
+    end_line();
 }
 
 fn main() {
     worked();
     blamed();
-    complaints();
-    edges();
+    false_blame();
+    bounds();
+    scalars();
+    arithmetic();
+    too_many_blamed();
+    senseless();
 }

@@ -1,103 +1,37 @@
-//! Every kind of request to the writers, good and refused. Each is made with
-//! the number that the writer must answer, and a different one stops the generator.
+//! The streams of requests to the writers: good ones, refused ones, broken ones.
 
+use super::broken_calls::{broken_streams, mixed_stream};
+use super::document_calls::document_requests;
+use super::request_set::RequestSet;
 use super::run_calls::{re_requests, ve_requests};
 use super::value_calls::{de_requests, su_requests};
-use crate::arith::Q;
-use crate::params::Params;
-use crate::requests::Request;
+use crate::requests::{framed, Request};
 use crate::rng::Rng;
 
 /// How many requests stand in one stream.
 const STREAM_LENGTH: usize = 10;
 
-/// The streams that a seed gives, as bytes.
+/// The streams that a seed gives, as bytes. The first is the same for every seed.
 pub fn all_streams(seed: u64) -> Vec<Vec<u8>> {
-    let requests = all_requests(seed);
-    let streams = requests.chunks(STREAM_LENGTH);
-    let encode = |stream: &[Request]| stream.iter().flat_map(Request::encode).collect();
-    streams.map(encode).collect()
+    let mut streams = vec![mixed_stream()];
+    streams.extend(whole_streams(seed));
+    streams.extend(broken_streams());
+    streams
 }
 
-/// Every request that a seed gives.
+/// Streams of whole requests.
+pub fn whole_streams(seed: u64) -> Vec<Vec<u8>> {
+    let encode = |request: &Request| framed(&request.encode());
+    let requests = all_requests(seed);
+    requests.chunks(STREAM_LENGTH).map(|stream| stream.iter().flat_map(encode).collect()).collect()
+}
+
+/// Every whole request that a seed gives.
 pub fn all_requests(seed: u64) -> Vec<Request> {
     let mut rng = Rng::new(seed);
-    let mut gathered = Gathered::default();
-    for group in [su_requests, de_requests, ve_requests, re_requests] {
+    let mut gathered = RequestSet::default();
+    for group in [document_requests, su_requests, de_requests, ve_requests, re_requests] {
         group(&mut gathered, &mut rng);
     }
     gathered.requests
-}
-
-/// The requests gathered so far.
-#[derive(Default)]
-pub struct Gathered {
-    requests: Vec<Request>,
-}
-
-impl Gathered {
-    /// Adds a request that must get this number.
-    pub fn add(&mut self, request: Request, number: u8) {
-        assert_eq!(request.answer().0, number, "{request:?}");
-        self.requests.push(request);
-    }
-
-    /// Adds the good request spoiled in every choice of one or more ways; the
-    /// first in the writer's order gives the number. Later ones are made first.
-    pub fn add_spoiled(
-        &mut self,
-        good: &Request,
-        order: &[u8],
-        mut spoil: impl FnMut(&mut Request, u8),
-    ) {
-        for numbers in choices(order) {
-            let mut request = good.clone();
-            for &number in numbers.iter().rev() {
-                spoil(&mut request, number);
-            }
-            self.add(request, numbers[0]);
-        }
-    }
-}
-
-/// Every choice of one or more numbers, each in the given order.
-fn choices(order: &[u8]) -> Vec<Vec<u8>> {
-    let chosen = |choice: usize| {
-        let places = (0..order.len()).filter(move |place| choice >> place & 1 == 1);
-        places.map(|place| order[place]).collect()
-    };
-    (1..1usize << order.len()).map(chosen).collect()
-}
-
-/// One byte too short or too long.
-pub fn spoil_buffer(request: &mut Request, rng: &mut Rng) {
-    let length = request.buffer_length;
-    request.buffer_length = rng.pick(&[length - 1, length + 1]);
-}
-
-/// One value too few or too many.
-pub fn spoil_count(list: &mut Vec<u32>, rng: &mut Rng) {
-    if rng.chance(50) {
-        list.push(0);
-    } else {
-        list.pop();
-    }
-}
-
-/// A number of q or more in place of one of the list.
-pub fn spoil_value(list: &mut [u32], rng: &mut Rng) {
-    let place = rng.below(list.len());
-    list[place] = too_large(rng);
-}
-
-/// A number of q or more.
-pub fn too_large(rng: &mut Rng) -> u32 {
-    rng.pick(&[Q, Q + 1, u32::MAX])
-}
-
-/// A few committees, the largest among them.
-pub fn some_params() -> Vec<Params> {
-    let triples = [(4, 1, 1), (7, 1, 2), (11, 2, 3), (32, 1, 15), (32, 10, 1)];
-    let within = triples.map(|(n, t, a)| Params::new(n, t, a).expect("within the bounds"));
-    within.to_vec()
 }

@@ -39,6 +39,11 @@ fn prelude(second: u32, third: u32, mask: u32) -> Vec<Vec<u8>> {
     [start, vec![challenges()]].concat()
 }
 
+/// The log up to the dealings, with the shares for 2 of dealers 2 and 3 as sent.
+pub fn up_to_dealings(second: u32, third: u32) -> Vec<u8> {
+    [vec![setup()], dealings(second, third)].concat().concat()
+}
+
 /// The worked log up to CH.
 pub fn up_to_challenges() -> Vec<u8> {
     prelude(1, 4, 0).concat()
@@ -67,13 +72,12 @@ pub fn one_bad() -> Vec<u8> {
 
 /// E: holder 2 blames dealer 3 without cause.
 pub fn false_blame() -> Vec<u8> {
-    let start = [vec![setup()], dealings(1, 4)].concat().concat();
-    [start, record("VE", &[2, 0], &[4])].concat()
+    [up_to_dealings(1, 4), record("VE", &[2, 0], &[4])].concat()
 }
 
 /// L: dealers 2 and 3 wrong holder 2 and are blamed, one more than t.
 pub fn too_many_bad() -> Vec<u8> {
-    [vec![setup()], dealings(2, 5), complaints(6)].concat().concat()
+    [up_to_dealings(2, 5), complaints(6).concat()].concat()
 }
 
 /// F and G: an SU of these parameters whose keys are all 4.

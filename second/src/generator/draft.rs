@@ -2,8 +2,8 @@
 //! and the bytes so far. Every record is written with the answer it must get,
 //! and a different answer stops the generator.
 
+use super::bytes::put;
 use super::committee::{random_params, Committee};
-use super::spoil;
 use crate::arith::Scalar;
 use crate::params::{Params, Party};
 use crate::records::Tag;
@@ -96,7 +96,7 @@ impl Draft {
             let off = Scalar::of(i64::from(rng.between(1, 1000)));
             let sent = self.committee.share(dealer, holder) + off;
             let place = 4 + 4 * (self.params().quorum() + holder as usize - 1);
-            spoil::put(&mut record, place, sent.number());
+            put(&mut record, place, sent.number());
         }
         record
     }
@@ -104,7 +104,7 @@ impl Draft {
     fn complaint(&self, holder: Party) -> Vec<u8> {
         let mut record = self.committee.ve(&self.run, holder);
         if self.silent.contains(&holder) {
-            spoil::put(&mut record, 4, 0);
+            put(&mut record, 4, 0);
         }
         record
     }
@@ -121,45 +121,8 @@ impl Draft {
         self.bytes.extend(record);
     }
 
-    /// Adds a refused record of any kind that the stage allows.
-    pub fn make_noise(&mut self, rng: &mut Rng) {
-        let (record, refusal) = spoil::random_fault(self, rng);
-        self.refuse(&record, refusal);
-    }
-
-    /// Adds a refused record of a tag that the stage does not take.
-    pub fn add_alien(&mut self, rng: &mut Rng) {
-        let record = spoil::random_alien(self, rng);
-        self.refuse(&record, Refusal::Stage);
-    }
-
-    /// Adds the next good record, with refused ones before it as the noise has it.
-    pub fn step(&mut self, rng: &mut Rng) {
-        while rng.chance(self.noise) {
-            self.make_noise(rng);
-        }
-        let record = self.next_record(rng);
-        self.accept(&record);
-    }
-
     pub fn at_end(&self) -> bool {
         self.run.stage.takes().is_none()
-    }
-
-    /// Goes on until this stage, or the end.
-    pub fn go_to(&mut self, stage: Stage, rng: &mut Rng) {
-        while self.run.stage < stage && !self.at_end() {
-            self.step(rng);
-        }
-    }
-
-    /// So many records at most.
-    pub fn go_on(&mut self, steps: usize, rng: &mut Rng) {
-        for _ in 0..steps {
-            if !self.at_end() {
-                self.step(rng);
-            }
-        }
     }
 
     /// The length of a record of this tag in this committee.

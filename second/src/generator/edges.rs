@@ -2,9 +2,10 @@
 //! after the end, senseless bytes, the longest logs, floods of refused
 //! records, and good logs changed at random.
 
+use super::course::{add_every_alien, completed};
 use super::document::{self, record};
-use super::logs::{add_every_alien, completed, Gathered};
 use super::draft::Draft;
+use super::log_set::LogSet;
 use super::spoil;
 use crate::arith::{Element, P, Q};
 use crate::params::Params;
@@ -32,7 +33,7 @@ fn draft_at(stage: Stage, draft: Draft, rng: &mut Rng) -> Draft {
     draft
 }
 
-pub fn setup_logs(gathered: &mut Gathered, rng: &mut Rng) {
+pub fn setup_logs(gathered: &mut LogSet, rng: &mut Rng) {
     gathered.add("setup-outside-bounds", outside_bounds(rng));
     gathered.add("setup-extreme-bytes", extreme_parameters(rng));
     gathered.add("setup-bad-keys", bad_keys(rng));
@@ -92,7 +93,7 @@ fn late_setups(mut draft: Draft, rng: &mut Rng) -> Vec<u8> {
 }
 
 /// Good logs that break off at every kind of place of every stage.
-pub fn cut_logs(gathered: &mut Gathered, rng: &mut Rng) {
+pub fn cut_logs(gathered: &mut LogSet, rng: &mut Rng) {
     for stage in Stage::ALL {
         let draft = small_draft(rng);
         let draft = draft_at(stage, draft, rng);
@@ -123,7 +124,7 @@ fn cut_tails(draft: &Draft, rng: &mut Rng) -> Vec<Vec<u8>> {
 }
 
 /// Records after stages 5 and 6, with and without a cut one last.
-pub fn after_end_logs(gathered: &mut Gathered, rng: &mut Rng) {
+pub fn after_end_logs(gathered: &mut LogSet, rng: &mut Rng) {
     for stage in [Stage::Done, Stage::Failed] {
         let kind = format!("after-{}", stage.number());
         gathered.add_many(&kind, 6, |index| {
@@ -140,7 +141,7 @@ pub fn after_end_logs(gathered: &mut Gathered, rng: &mut Rng) {
 }
 
 /// Empty, random and nearly right bytes.
-pub fn senseless_logs(gathered: &mut Gathered, rng: &mut Rng) {
+pub fn senseless_logs(gathered: &mut LogSet, rng: &mut Rng) {
     gathered.add("empty", Vec::new());
     for text in [
         "S",
@@ -167,7 +168,7 @@ pub fn senseless_logs(gathered: &mut Gathered, rng: &mut Rng) {
 }
 
 /// Logs about as long as a log may be.
-pub fn size_logs(gathered: &mut Gathered, rng: &mut Rng) {
+pub fn size_logs(gathered: &mut LogSet, rng: &mut Rng) {
     for size in [LONGEST_LOG - 1, LONGEST_LOG, LONGEST_LOG + 1] {
         gathered.add(&format!("size-{size}-zeros"), vec![0; size]);
         let draft = Draft::random(rng);
@@ -210,7 +211,7 @@ fn large_setups() -> Vec<u8> {
 }
 
 /// Thousands of refused records of 8 bytes.
-pub fn flood_logs(gathered: &mut Gathered, rng: &mut Rng) {
+pub fn flood_logs(gathered: &mut LogSet, rng: &mut Rng) {
     for stage in [Stage::Dealing, Stage::Challenging, Stage::Done, Stage::Failed] {
         let draft = small_draft(rng);
         let mut draft = draft_at(stage, draft, rng);
@@ -237,7 +238,7 @@ fn complaint_flood(rng: &mut Rng) -> Vec<u8> {
 }
 
 /// Good logs with bytes changed, cut out or doubled, and records in no order.
-pub fn changed_logs(gathered: &mut Gathered, rng: &mut Rng) {
+pub fn changed_logs(gathered: &mut LogSet, rng: &mut Rng) {
     gathered.add_many("changed-bytes", 50, |_| {
         let mut log = base_log(rng);
         for _ in 0..rng.between(1, 3) {

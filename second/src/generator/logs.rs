@@ -2,45 +2,21 @@
 //! with and without faults, and (in `edges`) logs at the limits of the format.
 
 use super::committee::random_params;
+use super::course::{add_every_alien, completed};
 use super::document;
-use super::edges;
 use super::draft::Draft;
+use super::edges;
+use super::log_set::{LogSet, NamedLog};
 use super::spoil;
 use crate::params::Params;
-use crate::records::Tag;
 use crate::refusal::Refusal;
 use crate::rng::Rng;
 use crate::run::Stage;
 
-/// A log and the name of its kind.
-pub struct NamedLog {
-    pub kind: String,
-    pub bytes: Vec<u8>,
-}
-
-/// The logs gathered so far.
-#[derive(Default)]
-pub struct Gathered {
-    pub logs: Vec<NamedLog>,
-}
-
-impl Gathered {
-    pub fn add(&mut self, kind: &str, bytes: Vec<u8>) {
-        self.logs.push(NamedLog { kind: kind.to_string(), bytes });
-    }
-
-    /// Adds so many logs of a kind.
-    pub fn add_many(&mut self, kind: &str, count: usize, mut make: impl FnMut(usize) -> Vec<u8>) {
-        for index in 0..count {
-            self.add(kind, make(index));
-        }
-    }
-}
-
 /// Every log of the set that a seed gives.
 pub fn all_logs(seed: u64) -> Vec<NamedLog> {
     let mut rng = Rng::new(seed);
-    let mut gathered = Gathered::default();
+    let mut gathered = LogSet::default();
     let groups = [
         document_logs,
         full_packing_logs,
@@ -63,7 +39,7 @@ pub fn all_logs(seed: u64) -> Vec<NamedLog> {
     gathered.logs
 }
 
-fn document_logs(gathered: &mut Gathered, _: &mut Rng) {
+fn document_logs(gathered: &mut LogSet, _: &mut Rng) {
     gathered.add("worked", document::worked());
     gathered.add("case-b", document::outsider());
     gathered.add("case-c", document::failing());
@@ -82,7 +58,7 @@ fn full_packings() -> Vec<Params> {
     pairs.filter_map(|(t, a)| Params::new(3 * t + 2 * a - 1, t, a)).collect()
 }
 
-fn full_packing_logs(gathered: &mut Gathered, rng: &mut Rng) {
+fn full_packing_logs(gathered: &mut LogSet, rng: &mut Rng) {
     let packings = full_packings();
     for &params in packings.iter().step_by(3) {
         let draft = Draft::new(params, rng);
@@ -97,14 +73,8 @@ fn full_packing_logs(gathered: &mut Gathered, rng: &mut Rng) {
     }
 }
 
-/// The bytes of a draft that goes on to its end.
-pub fn completed(mut draft: Draft, rng: &mut Rng) -> Vec<u8> {
-    draft.go_to(Stage::Done, rng);
-    draft.bytes
-}
-
 /// Honest committees, with and without refused records in between.
-fn complete_logs(gathered: &mut Gathered, rng: &mut Rng) {
+fn complete_logs(gathered: &mut LogSet, rng: &mut Rng) {
     for packing in 1..=5 {
         gathered.add_many(&format!("honest-packing-{packing}"), 8, |_| {
             let params = random_params(Some(packing), rng);
@@ -121,7 +91,7 @@ fn complete_logs(gathered: &mut Gathered, rng: &mut Rng) {
 }
 
 /// The same log to CH, then responses from different members of HOLD.
-fn other_quorum_logs(gathered: &mut Gathered, rng: &mut Rng) {
+fn other_quorum_logs(gathered: &mut LogSet, rng: &mut Rng) {
     for packing in 1..=3 {
         let params = random_params(Some(packing), rng);
         let mut draft = Draft::new(params, rng).with_bad_dealers(1, rng);
@@ -138,7 +108,7 @@ fn other_quorum_logs(gathered: &mut Gathered, rng: &mut Rng) {
 }
 
 /// Committees with wrong shares, blamed and not.
-fn wrong_share_logs(gathered: &mut Gathered, rng: &mut Rng) {
+fn wrong_share_logs(gathered: &mut LogSet, rng: &mut Rng) {
     gathered.add_many("wrong-blamed", 20, |_| {
         let draft = Draft::random(rng);
         let count = rng.between(1, draft.params().t) as usize;
@@ -196,7 +166,7 @@ fn last_dealer_blamed(rng: &mut Rng) -> Draft {
 }
 
 /// Logs that end at each stage from 0 to 4, with some of its records accepted.
-fn stopped_logs(gathered: &mut Gathered, rng: &mut Rng) {
+fn stopped_logs(gathered: &mut LogSet, rng: &mut Rng) {
     gathered.add_many("stopped-0", 3, |_| {
         let mut draft = Draft::random(rng);
         for _ in 0..5 {
@@ -225,7 +195,7 @@ fn stopped(mut draft: Draft, stage: Stage, index: usize, rng: &mut Rng) -> Vec<u
 }
 
 /// Every set of faults a record can have, at every stage.
-fn fault_logs(gathered: &mut Gathered, rng: &mut Rng) {
+fn fault_logs(gathered: &mut LogSet, rng: &mut Rng) {
     for (n, t, a) in [(4, 1, 1), (7, 1, 2), (9, 2, 2), (31, 1, 14), (32, 4, 6), (10, 1, 1)] {
         let params = Params::new(n, t, a).expect("within the bounds");
         let draft = Draft::new(params, rng).with_bad_dealers(usize::from(t), rng);
@@ -247,15 +217,6 @@ fn with_every_fault(mut draft: Draft, rng: &mut Rng) -> Vec<u8> {
         }
     }
     draft.bytes
-}
-
-/// A record of each tag that the stage does not take.
-pub fn add_every_alien(draft: &mut Draft, rng: &mut Rng) {
-    let taken = draft.run.stage.takes();
-    for tag in Tag::ALL.into_iter().filter(|&tag| Some(tag) != taken) {
-        let record = spoil::alien(draft, tag, rng);
-        draft.refuse(&record, Refusal::Stage);
-    }
 }
 
 /// Does the next good record end the stage?

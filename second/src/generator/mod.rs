@@ -1,18 +1,31 @@
 //! Seeded logs and writer requests for comparing this program with another.
+//! Each module uses those above it in this list alone.
 //!
+//! - `bytes`: numbers inside a record
 //! - `committee`: the secrets of a committee and the honest records they give
+//! - `document`: the logs that document 01 gives
 //! - `draft`: a log in the making, beside the run that reads it
 //! - `spoil`: records made to be refused with an intended number
-//! - `document`: the logs that document 01 gives
-//! - `logs`, `edges`: every kind of log
-//! - `calls`, `value_calls`, `run_calls`: every kind of writer request
+//! - `course`: a draft that goes on, with refused records in between
+//! - `log_set`: logs gathered by kind
+//! - `edges`, `logs`: every kind of log
+//! - `request_set`: writer requests gathered, each with its intended number
+//! - `document_calls`, `value_calls`, `run_calls`: every kind of writer request
+//! - `broken_calls`: broken requests, and streams that are cut or too long
+//! - `calls`: every stream
 
+pub mod broken_calls;
+pub mod bytes;
 pub mod calls;
 pub mod committee;
+pub mod course;
 pub mod document;
-pub mod edges;
-pub mod logs;
-pub mod run_calls;
+pub mod document_calls;
 pub mod draft;
+pub mod edges;
+pub mod log_set;
+pub mod logs;
+pub mod request_set;
+pub mod run_calls;
 pub mod spoil;
 pub mod value_calls;

@@ -1,7 +1,7 @@
 //! Requests to the writers of VE and RE, which are given a run.
 
-use super::calls::{some_params, spoil_buffer, spoil_count, too_large, Gathered};
 use super::draft::Draft;
+use super::request_set::{some_params, spoil_buffer, spoil_count, too_large, RequestSet};
 use crate::arith::Q;
 use crate::params::{Params, Party};
 use crate::records::Tag;
@@ -50,7 +50,7 @@ fn re_request(draft: &Draft, j: Party) -> Request {
     Request { call, buffer_length: draft.length(Tag::Re) as u16 }
 }
 
-pub fn ve_requests(gathered: &mut Gathered, rng: &mut Rng) {
+pub fn ve_requests(gathered: &mut RequestSet, rng: &mut Rng) {
     for params in some_params() {
         let draft = draft_at(Stage::Complaining, params, rng);
         for &(_, wronged) in draft.wrong.iter().take(3) {
@@ -68,7 +68,7 @@ pub fn ve_requests(gathered: &mut Gathered, rng: &mut Rng) {
 }
 
 /// Runs at every stage, and runs of logs that are no logs.
-fn ve_stages(gathered: &mut Gathered, rng: &mut Rng) {
+fn ve_stages(gathered: &mut RequestSet, rng: &mut Rng) {
     for stage in Stage::ALL {
         let draft = draft_at(stage, some_params()[1], rng);
         let number = if stage == Stage::Complaining { 0 } else { 11 };
@@ -81,7 +81,7 @@ fn ve_stages(gathered: &mut Gathered, rng: &mut Rng) {
 }
 
 /// Every party in turn, after two have complained.
-fn ve_again(gathered: &mut Gathered, rng: &mut Rng) {
+fn ve_again(gathered: &mut RequestSet, rng: &mut Rng) {
     let mut draft = draft_at(Stage::Complaining, some_params()[1], rng);
     draft.go_on(2, rng);
     for j in 1..=draft.params().n {
@@ -99,7 +99,7 @@ fn spoil_ve(request: &mut Request, params: Params, number: u8, rng: &mut Rng) {
     }
 }
 
-pub fn re_requests(gathered: &mut Gathered, rng: &mut Rng) {
+pub fn re_requests(gathered: &mut RequestSet, rng: &mut Rng) {
     for params in some_params() {
         let draft = draft_at(Stage::Responding, params, rng);
         gathered.add(re_request(&draft, draft.holders[0]), 0);
@@ -124,7 +124,7 @@ pub fn re_requests(gathered: &mut Gathered, rng: &mut Rng) {
 }
 
 /// Every party in turn, after one response has been taken.
-fn re_senders(gathered: &mut Gathered, params: Params, rng: &mut Rng) {
+fn re_senders(gathered: &mut RequestSet, params: Params, rng: &mut Rng) {
     let mut draft = draft_at(Stage::Responding, params, rng);
     draft.go_on(1, rng);
     for j in 1..=params.n {
@@ -134,7 +134,7 @@ fn re_senders(gathered: &mut Gathered, params: Params, rng: &mut Rng) {
 }
 
 /// Each share in turn out of range, then at the edge: only QUAL's are tested.
-fn re_values(gathered: &mut Gathered, params: Params, rng: &mut Rng) {
+fn re_values(gathered: &mut RequestSet, params: Params, rng: &mut Rng) {
     let draft = draft_at(Stage::Responding, params, rng);
     for dealer in 1..=params.n {
         let number = if sets(&draft).qual.contains(&dealer) { 6 } else { 0 };

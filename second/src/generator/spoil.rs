@@ -1,5 +1,6 @@
 //! Records made to be refused, each with the number it must be refused with.
 
+use super::bytes::{get, put};
 use super::committee::random_params;
 use super::draft::Draft;
 use crate::arith::{Element, Scalar, P, Q};
@@ -8,15 +9,6 @@ use crate::records::{setup_length, Tag};
 use crate::refusal::Refusal;
 use crate::rng::Rng;
 use crate::run::Stage;
-
-/// Writes a number of four bytes at an offset.
-pub fn put(record: &mut [u8], offset: usize, number: u32) {
-    record[offset..offset + 4].copy_from_slice(&number.to_be_bytes());
-}
-
-fn get(record: &[u8], offset: usize) -> u32 {
-    record[offset..offset + 4].iter().fold(0, |sum, &byte| sum * 256 + u32::from(byte))
-}
 
 /// The refusals that a whole record of the right stage can get, in the order
 /// of document 01.

@@ -1,7 +1,9 @@
 //! Requests to the writers of SU and DE, which are given values alone.
 
-use super::calls::{some_params, spoil_buffer, spoil_count, spoil_value, too_large, Gathered};
 use super::committee::{as_bytes, as_numbers, random_params, Committee};
+use super::request_set::{
+    some_params, spoil_buffer, spoil_count, spoil_value, too_large, RequestSet,
+};
 use crate::arith::Q;
 use crate::params::Params;
 use crate::records::{setup_length, Tag};
@@ -31,6 +33,12 @@ const OUTSIDE: [Triple; 12] = [
     (255, 255, 255),
 ];
 
+/// Counts of values that no writer takes.
+const OTHER_COUNTS: [usize; 5] = [0, 300, 1_024, 1_025, 2_000];
+
+/// Lengths of buffers that no record has.
+const OTHER_LENGTHS: [usize; 2] = [0, 65_535];
+
 fn su_request(params: Triple, s: u32, key_values: Vec<u32>, buffer_length: usize) -> Request {
     let call = Call::Su { params, s, key_values };
     Request { call, buffer_length: buffer_length as u16 }
@@ -54,7 +62,7 @@ fn good_de(params: Params, rng: &mut Rng) -> Request {
     de_request(as_bytes(params), i as u8, values, Tag::De.length(&params))
 }
 
-pub fn su_requests(gathered: &mut Gathered, rng: &mut Rng) {
+pub fn su_requests(gathered: &mut RequestSet, rng: &mut Rng) {
     for params in some_params() {
         let good = good_su(params, rng);
         gathered
@@ -68,7 +76,7 @@ pub fn su_requests(gathered: &mut Gathered, rng: &mut Rng) {
 }
 
 /// Both sides of each bound.
-fn su_bounds(gathered: &mut Gathered) {
+fn su_bounds(gathered: &mut RequestSet) {
     let inside = INSIDE.into_iter().map(|triple| (triple, 0));
     let outside = OUTSIDE.into_iter().map(|triple| (triple, 4));
     for (triple, number) in inside.chain(outside) {
@@ -79,13 +87,16 @@ fn su_bounds(gathered: &mut Gathered) {
 }
 
 /// Scalars, counts and buffers at their edges.
-fn su_values(gathered: &mut Gathered) {
+fn su_values(gathered: &mut RequestSet) {
     for (s, number) in [(0, 0), (Q - 1, 0), (Q, 6), (u32::MAX, 6)] {
         gathered.add(su_request((4, 1, 1), s, vec![1], 14), number);
         gathered.add(su_request((4, 1, 1), 1, vec![s], 14), number);
     }
-    for (count, length, number) in [(0, 14, 10), (300, 14, 10), (1, 0, 9), (1, 65_535, 9)] {
-        gathered.add(su_request((4, 1, 1), 1, vec![2; count], length), number);
+    for count in OTHER_COUNTS {
+        gathered.add(su_request((4, 1, 1), 1, vec![2; count], 14), 10);
+    }
+    for length in OTHER_LENGTHS {
+        gathered.add(su_request((4, 1, 1), 1, vec![2], length), 9);
     }
 }
 
@@ -101,7 +112,7 @@ fn spoil_su(request: &mut Request, number: u8, rng: &mut Rng) {
     }
 }
 
-pub fn de_requests(gathered: &mut Gathered, rng: &mut Rng) {
+pub fn de_requests(gathered: &mut RequestSet, rng: &mut Rng) {
     for params in some_params() {
         gathered.add(good_de(params, rng), 0);
         let other = random_params(None, rng);
@@ -117,7 +128,7 @@ pub fn de_requests(gathered: &mut Gathered, rng: &mut Rng) {
 }
 
 /// Both sides of each bound.
-fn de_bounds(gathered: &mut Gathered, rng: &mut Rng) {
+fn de_bounds(gathered: &mut RequestSet, rng: &mut Rng) {
     for (n, t, a) in INSIDE {
         let params = Params::new(n, t, a).expect("within the bounds");
         gathered.add(good_de(params, rng), 0);
@@ -128,7 +139,7 @@ fn de_bounds(gathered: &mut Gathered, rng: &mut Rng) {
 }
 
 /// Dealers, scalars, counts and buffers at their edges.
-fn de_values(gathered: &mut Gathered) {
+fn de_values(gathered: &mut RequestSet) {
     let params = (6, 1, 2);
     for (i, number) in [(1, 0), (6, 0), (0, 5), (7, 5), (255, 5)] {
         gathered.add(de_request(params, i, vec![Q - 1, 0, 1, 2], 44), number);
@@ -137,8 +148,11 @@ fn de_values(gathered: &mut Gathered) {
         gathered.add(de_request(params, 3, vec![value, 0, 0, 0], 44), number);
         gathered.add(de_request(params, 3, vec![0, 0, 0, value], 44), number);
     }
-    for (count, length, number) in [(0, 44, 10), (300, 44, 10), (4, 0, 9), (4, 65_535, 9)] {
-        gathered.add(de_request(params, 3, vec![7; count], length), number);
+    for count in OTHER_COUNTS {
+        gathered.add(de_request(params, 3, vec![7; count], 44), 10);
+    }
+    for length in OTHER_LENGTHS {
+        gathered.add(de_request(params, 3, vec![7; 4], length), 9);
     }
 }
 

@@ -1,7 +1,6 @@
--- `load` is safe and ends: it counts to 1,024, and the list keeps its length. Assumes nothing.
+-- `load` is safe and ends: it counts to the length of the list, which stays. Assumes nothing.
 use Prim.Native.Nat.{_≤_, _-_}
 use native.Mathlib.Omega.{arith}
-use mathlib.Core.Logic.{⊎-elim}
 use mathlib.Core.Path.{_≡_, _∙_, ap}
 use lib.ListN.{length, length-set}
 use borrow.Author.Needs.{needs}
@@ -9,10 +8,10 @@ use Rattle.scribe.proofs.load.Statement.{statement}
 use Rattle.scribe.proofs.load.Tie as tie
 
 abbrev Inv-loop : tie.InvT-loop
-Inv-loop s at list₀ i₀ list i = (i ≤ 1024) × (length list ≡ length list₀)
+Inv-loop s at list₀ count i₀ list i = (i ≤ count) × (length list ≡ length list₀)
 
 abbrev μ-loop : tie.MeasureT-loop
-μ-loop s at list₀ i₀ list i = 1024 - i
+μ-loop s at list₀ count i₀ list i = count - i
 
 loop-holds : tie.Need-loop-holds Inv-loop μ-loop
 loop-holds c = search needs
@@ -39,7 +38,7 @@ loop-less : tie.Need-loop-less Inv-loop μ-loop
 loop-less c = search needs
 
 loop-again : tie.Need-loop-again Inv-loop μ-loop
-loop-again c = (omega arith, ⊎-elim (λ w. ap length (w .2) ∙ simp length-set (c .before .before .loop .inv .1)) (λ w. rw (w .1) (c .before .before .loop .inv .1)) (c .if1 .came))
+loop-again c = search needs
 
 same-length : tie.Need-same-length Inv-loop μ-loop
 same-length c = search needs

@@ -5,8 +5,17 @@ use borrow.Author.Needs.{needs}
 use Rattle.sprintlog.proofs.write_page.Statement.{statement}
 use Rattle.sprintlog.proofs.write_page.Tie as tie
 
+say-unmade-requires : tie.Need-say-unmade-requires
+say-unmade-requires c κs = search needs
+
 returns : tie.Need-returns
 returns c = search needs
+
+say-unmade-requires-2 : tie.Need-say-unmade-requires-2
+say-unmade-requires-2 c κs = search needs
+
+returns-2 : tie.Need-returns-2
+returns-2 c = search needs
 
 slice-aggregate-write-all : tie.Need-slice-aggregate-write-all
 slice-aggregate-write-all c = simp length-take (omega arith)
@@ -20,20 +29,23 @@ slice-aggregate-write-all-2 c = search needs
 write-all-requires-2 : tie.Need-write-all-requires-2
 write-all-requires-2 c κs = search needs
 
-returns-2 : tie.Need-returns-2
-returns-2 c = search needs
-
 returns-3 : tie.Need-returns-3
 returns-3 c = search needs
+
+returns-4 : tie.Need-returns-4
+returns-4 c = search needs
 
 pub write-page-spec : {M : Type 1} → statement M
 write-page-spec =
     tie.close
     (tie.spec
+    say-unmade-requires
     returns
+    say-unmade-requires-2
+    returns-2
     slice-aggregate-write-all
     write-all-requires
     slice-aggregate-write-all-2
     write-all-requires-2
-    returns-2
-    returns-3)
+    returns-3
+    returns-4)

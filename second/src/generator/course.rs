@@ -1,0 +1,63 @@
+//! How a draft runs its course: good records one after another, with refused
+//! ones before them.
+
+use super::draft::Draft;
+use super::spoil;
+use crate::records::Tag;
+use crate::refusal::Refusal;
+use crate::rng::Rng;
+use crate::run::Stage;
+
+impl Draft {
+    /// Adds a refused record of any kind that the stage allows.
+    pub fn make_noise(&mut self, rng: &mut Rng) {
+        let (record, refusal) = spoil::random_fault(self, rng);
+        self.refuse(&record, refusal);
+    }
+
+    /// Adds a refused record of a tag that the stage does not take.
+    pub fn add_alien(&mut self, rng: &mut Rng) {
+        let record = spoil::random_alien(self, rng);
+        self.refuse(&record, Refusal::Stage);
+    }
+
+    /// Adds the next good record, with refused ones before it as the noise has it.
+    pub fn step(&mut self, rng: &mut Rng) {
+        while rng.chance(self.noise) {
+            self.make_noise(rng);
+        }
+        let record = self.next_record(rng);
+        self.accept(&record);
+    }
+
+    /// Goes on until this stage, or the end.
+    pub fn go_to(&mut self, stage: Stage, rng: &mut Rng) {
+        while self.run.stage < stage && !self.at_end() {
+            self.step(rng);
+        }
+    }
+
+    /// So many records at most.
+    pub fn go_on(&mut self, steps: usize, rng: &mut Rng) {
+        for _ in 0..steps {
+            if !self.at_end() {
+                self.step(rng);
+            }
+        }
+    }
+}
+
+/// The bytes of a draft that goes on to its end.
+pub fn completed(mut draft: Draft, rng: &mut Rng) -> Vec<u8> {
+    draft.go_to(Stage::Done, rng);
+    draft.bytes
+}
+
+/// A record of each tag that the stage does not take.
+pub fn add_every_alien(draft: &mut Draft, rng: &mut Rng) {
+    let taken = draft.run.stage.takes();
+    for tag in Tag::ALL.into_iter().filter(|&tag| Some(tag) != taken) {
+        let record = spoil::alien(draft, tag, rng);
+        draft.refuse(&record, Refusal::Stage);
+    }
+}
