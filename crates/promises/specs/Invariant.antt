@@ -71,7 +71,7 @@ pub record ResponsesOf (setup : Setup) (p : Responses) (l : List (List ℕ)) : T
   pub slots : Slots scalar (scalar 0) (batch (setup .n) (setup .t)) (p .numbers) l
 
 -- a response row of a member of HOLD, whose numbers pass
-pub record Row (w : Transcript) (holders : ℕ) (s : List ℕ) : Type 0 where
+pub record PassingRow (w : Transcript) (holders : ℕ) (s : List ℕ) : Type 0 where
   pub held : has holders (sender s) ≡ true
   pub passing : (x : ℕ) → x < batch (w .n) (w .t) → passes w (x + 1) (sender s) (scalar (word s 4 x)) ≡ true
 
@@ -108,7 +108,7 @@ pub record Live (r : Run) (f : Tag → List (List ℕ)) : Type 0 where
   pub complaints : ComplaintsOf (r .setup) (r .dealings .dealers) (r .complaints) (f VE)
   pub challenges : ChallengesOf (r .setup) (r .challenges) (first (f CH))
   pub responses : ResponsesOf (r .setup) (r .responses) (f RE)
-  pub rows : All (Row (transcriptOf r) (r .complaints .holders)) (f RE)
+  pub rows : All (PassingRow (transcriptOf r) (r .complaints .holders)) (f RE)
   pub signatures-size : length (r .signatures) ≡ 512
   pub stage : AtStage (r .stage) r f
 

@@ -32,7 +32,7 @@ use Rattle.complaint.specs.ComplaintLaws.{blamed-none, blamed-more}
 use Rattle.promises.specs.Lists.{some}
 use Rattle.promises.specs.ListLaws.{snoc, some-snoc}
 use Rattle.promises.specs.Senders.{New, has-pos, senders-none, slots-none, marks-none, senders-more, slots-more, marks-more}
-use Rattle.promises.specs.Invariant.{DealingsOf, ComplaintsOf, ResponsesOf, Row}
+use Rattle.promises.specs.Invariant.{DealingsOf, ComplaintsOf, ResponsesOf, PassingRow}
 
 -- no refusal: none before, and none after
 or-next : (k next : ℕ) → orNext k next ≡ 0 → (k ≡ 0) × (next ≡ 0)
@@ -158,7 +158,7 @@ complaints-more setup dealers c s l b new blames h =
 -- ---- RE
 
 pub response-new : (r : Run) (s : List ℕ) → responseNumber (r .setup) (r .dealings) (r .complaints) (r .challenges) (r .responses) s ≡ 0
-    → New (r .setup .n) (r .responses .responders) s × Row (transcriptOf r) (r .complaints .holders) s
+    → New (r .setup .n) (r .responses .responders) s × PassingRow (transcriptOf r) (r .complaints .holders) s
 unfolding responseNumber transcriptOf transcript
 response-new r s e =
     let c = or-next _ _ e in

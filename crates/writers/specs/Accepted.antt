@@ -30,7 +30,7 @@ use Rattle.run.specs.Steps.{takenAt, atStage, handlerAt, handled, stepOf}
 use Rattle.run.specs.StepLaws.{step-taken, answered-number}
 use Rattle.writers.specs.Writers.{complaintRefused, complaintBytes, responseRefused, responseFor, responseBytes}
 use Rattle.writers.specs.WriterLaws.{complaint-fits, mask-lt, response-fits}
-use Rattle.writers.specs.Honest.{RightShares, number-passes}
+use Rattle.writers.specs.Honest.{ValidShares, number-passes}
 
 -- the tag is the first two bytes
 tag-first : (x y : ℕ) (rest : List ℕ) → tagOf (x ∷ y ∷ rest) ≡ tagOf (x ∷ y ∷ [])
@@ -121,7 +121,7 @@ pub response-accepted : (r : Run) (j key : ℕ) (shares : List ℕ) (room : ℕ)
     → responseRefused r j key shares room ≡ 0
     → has (r .responses .responders) j ≡ false
     → raise generator (scalar key) ≡ keyAt (r .setup .t) (r .setup .a) (keyIn (r .setup)) (party j)
-    → RightShares (transcriptOf r) j shares
+    → ValidShares (transcriptOf r) j shares
     → stepOf r (responseBytes r j key shares) .number ≡ 0
 unfolding takenAt handlerAt atStage handled tagOf byteAt transcriptOf transcript responseFor responseBytes responseNumber
 response-accepted r j key shares room e new own right =

@@ -1,7 +1,7 @@
 -- `dealing_refusal` meets its contract: the code asks what the definition asks, in its order. Assumes nothing.
 use mathlib.Core.Path.{refl, sym}
 use borrow.Author.Needs.{needs}
-use Rattle.lists.specs.Tests.{Left, left, refused}
+use Rattle.lists.specs.Tests.{Left, left, test-number}
 use Rattle.refusals.specs.Refusals.{dealingRefusal}
 use Rattle.lists.specs.Calls.{holds, fails, equals, differs, is, is-not}
 use Rattle.refusals.proofs.dealing_refusal.Statement.{statement}
@@ -12,7 +12,7 @@ dealing-length-requires c κs = search needs
 
 returns : tie.Need-returns
 unfolding dealingRefusal
-returns c = refused _ _ _ refl (differs (c .before .dealing-length .ensures) (c .if1 .taken))
+returns c = test-number _ _ _ refl (differs (c .before .dealing-length .ensures) (c .if1 .taken))
 
 -- what is left of the refusal once the length is right; the lemmas like it below go on from the one before
 long : (c : tie.Else1) → unfold dealingRefusal in
@@ -25,7 +25,7 @@ byte-requires c κs = search needs
 
 returns-2 : tie.Need-returns-2
 unfolding dealingRefusal
-returns-2 c = refused _ _ _ (long (c .before .before)) (is-not (c .before .byte .ensures) (c .if2 .taken))
+returns-2 c = test-number _ _ _ (long (c .before .before)) (is-not (c .before .byte .ensures) (c .if2 .taken))
 
 reserved : (c : tie.Else2) → unfold dealingRefusal in (Left _ _ _ (long (c .before .before)))
 unfolding dealingRefusal
@@ -41,7 +41,7 @@ returns-3 : tie.Need-returns-3
 unfolding dealingRefusal
 returns-3 c =
     let here = rw (c .before .before .byte2 .ensures) at (c .before .is-party .ensures) in
-    refused _ _ _ (reserved (c .before .before .before)) (fails here (c .if3 .taken))
+    test-number _ _ _ (reserved (c .before .before .before)) (fails here (c .if3 .taken))
 
 party : (c : tie.Else3) → unfold dealingRefusal in (Left _ _ _ (reserved (c .before .before .before)))
 unfolding dealingRefusal
@@ -59,7 +59,7 @@ returns-4 : tie.Need-returns-4
 unfolding dealingRefusal
 returns-4 c =
     let here = rw (c .before .before .quorum .ensures) at (c .before .all-elements .ensures) in
-    refused _ _ _ (party (c .before .before .before)) (fails here (c .if4 .taken))
+    test-number _ _ _ (party (c .before .before .before)) (fails here (c .if4 .taken))
 
 elements : (c : tie.Else4) → unfold dealingRefusal in (Left _ _ _ (party (c .before .before .before)))
 unfolding dealingRefusal
@@ -77,7 +77,7 @@ returns-5 : tie.Need-returns-5
 unfolding dealingRefusal
 returns-5 c =
     let here = rw (c .before .before .shares-from .ensures) at (c .before .all-scalars .ensures) in
-    refused _ _ _ (elements (c .before .before .before)) (fails here (c .if5 .taken))
+    test-number _ _ _ (elements (c .before .before .before)) (fails here (c .if5 .taken))
 
 returns-6 : tie.Need-returns-6
 unfolding dealingRefusal

@@ -1,7 +1,7 @@
 -- `response_refusal` meets its contract: the code asks what the definition asks, in its order. Assumes nothing.
 use mathlib.Core.Path.{refl, sym}
 use borrow.Author.Needs.{needs}
-use Rattle.lists.specs.Tests.{Left, left, refused}
+use Rattle.lists.specs.Tests.{Left, left, test-number}
 use Rattle.refusals.specs.Refusals.{responseRefusal}
 use Rattle.lists.specs.Calls.{holds, fails, equals, differs, is, is-not}
 use Rattle.refusals.proofs.response_refusal.Statement.{statement}
@@ -12,7 +12,7 @@ response-length-requires c κs = search needs
 
 returns : tie.Need-returns
 unfolding responseRefusal
-returns c = refused _ _ _ refl (differs (c .before .response-length .ensures) (c .if1 .taken))
+returns c = test-number _ _ _ refl (differs (c .before .response-length .ensures) (c .if1 .taken))
 
 -- what is left of the refusal once the length is right; the lemmas like it below go on from the one before
 long : (c : tie.Else1) → unfold responseRefusal in (let a = c .before .before .before .args in Left {r = responseRefusal (a .n) (a .t) (a .s .now)} _ _ _ refl)
@@ -24,7 +24,7 @@ byte-requires c κs = search needs
 
 returns-2 : tie.Need-returns-2
 unfolding responseRefusal
-returns-2 c = refused _ _ _ (long (c .before .before)) (is-not (c .before .byte .ensures) (c .if2 .taken))
+returns-2 c = test-number _ _ _ (long (c .before .before)) (is-not (c .before .byte .ensures) (c .if2 .taken))
 
 reserved : (c : tie.Else2) → unfold responseRefusal in (Left _ _ _ (long (c .before .before)))
 unfolding responseRefusal
@@ -40,7 +40,7 @@ returns-3 : tie.Need-returns-3
 unfolding responseRefusal
 returns-3 c =
     let here = rw (c .before .before .byte2 .ensures) at (c .before .is-party .ensures) in
-    refused _ _ _ (reserved (c .before .before .before)) (fails here (c .if3 .taken))
+    test-number _ _ _ (reserved (c .before .before .before)) (fails here (c .if3 .taken))
 
 party : (c : tie.Else3) → unfold responseRefusal in (Left _ _ _ (reserved (c .before .before .before)))
 unfolding responseRefusal
@@ -61,7 +61,7 @@ returns-4 : tie.Need-returns-4
 unfolding responseRefusal
 returns-4 c =
     let here = rw (c .before .before .batch .ensures) at (c .before .all-scalars .ensures) in
-    refused _ _ _ (party (c .before .before .before)) (fails here (c .if4 .taken))
+    test-number _ _ _ (party (c .before .before .before)) (fails here (c .if4 .taken))
 
 returns-5 : tie.Need-returns-5
 unfolding responseRefusal
