@@ -2,7 +2,6 @@
 ghost use mathlib.Core.Path.{_≡_};
 ghost use Prim.Native.Nat.{_+_, _-_, min};
 ghost use lib.ListN.{getD};
-ghost use Rattle.sets.specs.Masks.{has};
 ghost use Rattle.field.specs.Definitions.{identity, generator, sameElement, raise};
 ghost use Rattle.interpolation.specs.Rows.{productOf};
 ghost use Rattle.arrays.specs.Arrays.{challengeIn, memberPoints, memberNumbers, elements, scalars};

@@ -91,9 +91,6 @@ answer l s = stepOf (after l) s .number ∷ []
 test : Bool → List ℕ
 test b = pick b (1 ∷ []) (0 ∷ [])
 
-keys : ℕ → List ℕ
-keys n = 4 ∷ filled n 16
-
 -- the page of a list of records, end to end
 page : List (List ℕ) → List (List ℕ)
 page l = reportOf (joined l) ∷ []

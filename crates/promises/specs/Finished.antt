@@ -7,12 +7,11 @@ use mathlib.Core.List.{List, []}
 use Prim.Native.Nat.{ℕ, _+_, _-_, _≤_, _<_}
 use native.Mathlib.Omega.{arith}
 use lib.ListN.{length, getD}
-use borrow.Author.Tests.{eqb-true}
 use Rattle.lists.specs.Members.{All, all-getD, all-map, Distinct, distinct-getD}
 use Rattle.sets.specs.Masks.{has}
 use Rattle.sets.specs.MemberLaws.{Member, members-all, members-distinct}
 use Rattle.field.specs.declared.Element.{Element}
-use Rattle.field.specs.Definitions.{scalar, element, generator, IsScalar, product, raise}
+use Rattle.field.specs.Definitions.{scalar, generator, IsScalar, product, raise}
 use Rattle.field.specs.ElementLaws.{generator-unique, same-is}
 use Rattle.interpolation.specs.Definitions.{party}
 use Rattle.interpolation.specs.Laws.{scalarAt-range}

@@ -2,13 +2,11 @@
 -- Assumes nothing.
 use mathlib.Core.Path.{_≡_, refl}
 use mathlib.Core.Bool.{true, and-eq-true-iff}
-use mathlib.Core.List.{List}
-use Prim.Native.Nat.{ℕ, _+_, _*_, _-_, _^_, _≤_, _<_}
+use Prim.Native.Nat.{ℕ, _+_, _*_, _-_, _≤_, _<_}
 use native.Mathlib.Omega.{arith}
 use native.Mathlib.Nat.{mul-le-mul, le-trans}
 use borrow.Author.Tests.{leb-true, le-leb}
 use Rattle.records.specs.Parameters.{mostParties, inBounds, quorum, batch, isParty}
-use Rattle.records.specs.Bytes.{byteAt, numberAt}
 use Rattle.records.specs.Tags.{Tag, SU, DE, VE, CH, RE, unknown, code, decoded}
 
 -- ---- tags
@@ -68,10 +66,6 @@ quorum-max b = omega arith
 pub key-max : {n t a : ℕ} → Bounds n t a → t + a ≤ 31
 key-max b = omega arith
 
-pub batch-is : (n t : ℕ) → batch n t ≡ n - 2 * t
-unfolding batch
-batch-is n t = refl
-
 pub batch-pos : {n t a : ℕ} → Bounds n t a → 0 < batch n t
 unfolding batch
 batch-pos b = omega arith
@@ -91,7 +85,3 @@ cells-max {n} {t} {a} b =
 -- the product of two bytes has 16 bits
 pub byte-product : (x y : ℕ) → x < 256 → y < 256 → x * y ≤ 65025
 byte-product x y p q = let l : x ≤ 255 = omega arith in let m : y ≤ 255 = omega arith in mul-le-mul l m
-
-pub numberAt-lt : (s : List ℕ) (at : ℕ) → ((i : ℕ) → byteAt s i < 256) → numberAt s at < 2 ^ 32
-unfolding numberAt
-numberAt-lt s at h = omega (arith, h at, h (at + 1), h (at + 2), h (at + 3))

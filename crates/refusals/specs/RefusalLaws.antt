@@ -2,7 +2,7 @@
 use mathlib.Core.Path.{_≡_, refl}
 use mathlib.Core.Bool.{true, and-eq-true-iff}
 use mathlib.Core.List.{List}
-use Prim.Native.Nat.{ℕ, _*_, _-_, _^_, _≤_, _<_}
+use Prim.Native.Nat.{ℕ, _^_, _≤_, _<_}
 use native.Mathlib.Omega.{arith}
 use lib.ListN.{length}
 use lib.Dec.{leb}
@@ -11,8 +11,8 @@ use Rattle.lists.specs.Tests.{and-right, all-at, all-make, require-pass, passed
 use Rattle.field.specs.Definitions.{isScalar, isElement}
 use Rattle.records.specs.Parameters.{quorum, batch}
 use Rattle.records.specs.Bytes.{byteAt, numberAt, word, sender}
-use Rattle.records.specs.Tags.{setupLength, dealingLength, complaintLength, challengesLength, responseLength, sharesFrom}
-use Rattle.refusals.specs.Refusals.{setupRefusal, dealingRefusal, maskFits, complaintRefusal, challengesRefusal, responseRefusal}
+use Rattle.records.specs.Tags.{setupLength, dealingLength, complaintLength, responseLength, sharesFrom}
+use Rattle.refusals.specs.Refusals.{setupRefusal, dealingRefusal, maskFits, complaintRefusal, responseRefusal}
 use Rattle.records.specs.Laws.{Bounds, bounds-of, bounds-test, party-of, party-test}
 
 -- ---- a setup that is not refused
@@ -109,30 +109,6 @@ complaint-passes n s h =
     (require-pass _ _ _ (eq-eqb _ _ (h .reserved))
     (require-pass _ _ _ (party-test n (sender s) (h .sender-pos) (h .sender-max))
     (require-pass _ _ _ (lt-ltb _ _ (h .mask)) refl)))
-
--- ---- challenges that are not refused
-
-pub record PassedChallenges (n t a : ℕ) (s : List ℕ) : Type 0 where
-  pub scalars : (x : ℕ) → x < a * batch n t → isScalar (word s 4 x) ≡ true
-  pub long : length s ≡ challengesLength n t a
-  pub reserved2 : byteAt s 2 ≡ 0
-  pub reserved3 : byteAt s 3 ≡ 0
-
-pub challenges-passed : (n t a : ℕ) (s : List ℕ) → challengesRefusal n t a s ≡ 0 → PassedChallenges n t a s
-unfolding challengesRefusal
-challenges-passed n t a s e =
-    let p = passed _ _ _ e (omega arith) in
-    let q = passed _ _ _ (p .1) (omega arith) in
-    let r = passed _ _ _ (q .1) (omega arith) in
-    let both = and-eq-true-iff _ _ .0 (q .0) in
-    record { scalars = all-at _ _ (r .0); long = eqb-true _ _ (p .0); reserved2 = eqb-true _ _ (both .0); reserved3 = eqb-true _ _ (both .1) }
-
-pub challenges-passes : (n t a : ℕ) (s : List ℕ) → PassedChallenges n t a s → challengesRefusal n t a s ≡ 0
-unfolding challengesRefusal
-challenges-passes n t a s h =
-    require-pass _ _ _ (eq-eqb _ _ (h .long))
-    (require-pass _ _ _ (and-eq-true-iff _ _ .1 (eq-eqb _ _ (h .reserved2), eq-eqb _ _ (h .reserved3)))
-    (require-pass _ _ _ (all-make _ _ (h .scalars)) refl))
 
 -- ---- a response row that is not refused
 

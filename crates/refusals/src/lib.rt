@@ -2,7 +2,6 @@
 ghost use mathlib.Core.Path.{_≡_};
 ghost use Rattle.lists.specs.Tests.{allTo};
 ghost use Rattle.field.specs.Definitions.{isScalar, isElement};
-ghost use Rattle.records.specs.Parameters.{quorum, batch};
 ghost use Rattle.records.specs.Bytes.{word};
 ghost use Rattle.refusals.specs.Refusals.{maskFits, setupRefusal, dealingRefusal, complaintRefusal, challengesRefusal, responseRefusal};
 use field::Element;
