@@ -23,7 +23,7 @@ pub fn capped(count: usize) -> usize
     if count < 64 { count } else { 64 }
 }
 
-// Whether a share for j is valid under committed values: the weights are those of the committed points at j.
+// Whether a share for j is valid (right, in document 01) under committed values: the weights are those of the committed points at j.
 pub fn share_fits(weights: Row, values: [Element; 64], share: Scalar) -> bool
     ensures { λ r. ⌜ r ≡ sameElement (raise generator share) (productOf weights values) ⌝ }
 {

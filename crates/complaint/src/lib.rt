@@ -9,7 +9,7 @@ ghost use Rattle.complaint.specs.Definitions.{maskBy, blamedBy, unblamed
 use dealing::Dealings;
 use dealing::Setup;
 
-// The accepted complaint rows. Holder j's mask stands at j - 1.
+// The accepted complaint rows (verdicts, in document 01). Holder j's mask stands at j - 1.
 pub struct Complaints {
     pub count: u8,
     pub holders: u64,

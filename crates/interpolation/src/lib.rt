@@ -38,7 +38,7 @@ pub fn committed_points(a: u8, count: u8) -> Row
     Row { at: at, count: m }
 }
 
-// The packed slots 1 to count: the points 0, -1, ...
+// The slots (packed places) 1 to count: the points 0, -1, ...
 pub fn slot_points(count: u8) -> Row
     ensures { λ r. ⌜ r ≡ listed count (λ v. slot (v + 1)) ⌝ }
 {

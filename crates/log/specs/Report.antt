@@ -25,6 +25,6 @@ refusalLines position r (s ∷ l) =
     pick (eqb (stepOf r s .number) 0) [] (line refuseWord (position ∷ stepOf r s .number ∷ []))
     ++ refusalLines (position + 1) (stepOf r s .run) l
 
--- the page of a log; `long` alone over 65,536 bytes
+-- the report (page, in document 01) of a log; `long` alone over 65,536 bytes
 unfoldable pub reportOf : List ℕ → List ℕ
 reportOf log = pick (ltb 65536 (length log)) (line longWord []) (refusalLines 1 fresh (recordsOf log) ++ closing (runOf log))

@@ -56,7 +56,7 @@ fn next_length(run: Run, rest: &[u8]) -> usize
     length
 }
 
-// The line of a refused record.
+// The line of a refused record: its position (place, in document 01) and its number.
 fn put_refusal(out: &mut [u8], at: usize, position: u32, number: u8) -> usize
     requires { ⌜ at + 32 ≤ length (now out) ⌝ }
     ensures { λ r. ⌜ Wrote (now (out .entry)) (now (out .exit)) at r (line refuseWord (position ∷ number ∷ [])) ⌝ }
@@ -96,7 +96,7 @@ fn put_page(log: &[u8], out: &mut [u8]) -> usize
     closing::put_closing(out, at, run)
 }
 
-// The page of a log into a buffer that has room for every page, and how long it is; into any other nothing.
+// The report (page, in document 01) of a log into a buffer that has room for every page, and how long it is; into any other nothing.
 pub fn report(log: &[u8], out: &mut [u8]) -> usize
     ensures size { λ r. ⌜ r ≡ length (printed (length (now (out .entry))) (now (log .entry))) ⌝ }
     ensures bytes { λ _. ⌜ now (out .exit) ≡ sets (now (out .entry)) 0 (printed (length (now (out .entry))) (now (log .entry))) ⌝ }

@@ -11,7 +11,7 @@ mostParties = 32
 unfoldable pub inBounds : ℕ → ℕ → ℕ → Bool
 inBounds n t a = leb 1 t && (leb 1 a && (leb n mostParties && leb (3 * t + 2 * a) (n + 1)))
 
--- need = d' + 1 with d' = t + 2a - 2: the committed values of a dealing, and the responses that a signature takes
+-- the quorum (need, in document 01), d' + 1 with d' = t + 2a - 2: the committed values of a dealing, and the responses that a signature takes
 unfoldable pub quorum : ℕ → ℕ → ℕ
 quorum t a = t + 2 * a - 1
 

@@ -7,6 +7,7 @@ use Rattle.lists.specs.Tests.{pick}
 use Rattle.records.specs.Parameters.{quorum, batch}
 use Rattle.records.specs.Bytes.{byteAt}
 
+-- VE is a complaint row (verdict, in document 01)
 pub data Tag : Type 0 where
   SU : Tag
   DE : Tag
@@ -28,7 +29,7 @@ code unknown = 0
 unfoldable pub decoded : ℕ → Tag
 decoded k = pick (eqb k 1) SU (pick (eqb k 2) DE (pick (eqb k 3) VE (pick (eqb k 4) CH (pick (eqb k 5) RE unknown))))
 
--- the tag of a record: its first two bytes, in ASCII
+-- the tag (mark, in document 01) of a record: its first two bytes, in ASCII
 unfoldable pub tagOf : List ℕ → Tag
 tagOf s =
     let m = byteAt s 0 * 256 + byteAt s 1 in

@@ -22,7 +22,7 @@ pub fn in_bounds(n: u8, t: u8, a: u8) -> bool
     3 * t as u32 + 2 * a as u32 <= n as u32 + 1
 }
 
-// The committed values of a dealing, and the responses that a signature takes.
+// The quorum (need, in document 01): the committed values of a dealing, and the responses that a signature takes.
 pub fn quorum(t: u8, a: u8) -> u16
     ensures { λ r. ⌜ r ≡ quorum t a ⌝ }
 {
@@ -30,7 +30,7 @@ pub fn quorum(t: u8, a: u8) -> u16
     if 0 < sum { sum - 1 } else { 0 }
 }
 
-// The signatures of a packed slot.
+// b, the signatures of a packed slot.
 pub fn batch(n: u8, t: u8) -> u8
     ensures { λ r. ⌜ r ≡ batch n t ⌝ }
 {
@@ -73,7 +73,7 @@ pub fn word(s: &[u8], at: u16, i: u16) -> u32
     number(s, at as u32 + 4 * i as u32)
 }
 
-// The tag of a record: 1 SU, 2 DE, 3 VE, 4 CH, 5 RE, and 0 for none of these.
+// The tag (mark, in document 01) of a record: 1 SU, 2 DE, 3 VE, 4 CH, 5 RE, and 0 for none of these.
 pub fn tag(s: &[u8]) -> u8
     ensures { λ r. ⌜ r ≡ code (tagOf (now (s .entry))) ⌝ }
 {

@@ -1,5 +1,5 @@
 -- What is refused from the input alone, by kind of record (document 01, "From the input"): the refusal's number, or 0. Each number is asked of
--- the whole record before the next one.
+-- the whole record before the next one. A reserved byte is a spare one of document 01.
 use Prim.Native.Nat.{ℕ, _+_, _*_, _^_}
 use mathlib.Core.Bool.{Bool, _&&_}
 use mathlib.Core.List.{List}
@@ -32,7 +32,7 @@ dealingRefusal n t a s =
 unfoldable pub maskFits : ℕ → ℕ → Bool
 maskFits n mask = ltb mask (2 ^ n)
 
--- VE: holder, reserved; the mask of the blamed dealers
+-- VE, a complaint row (verdict): holder, reserved; the mask of the blamed dealers
 unfoldable pub complaintRefusal : ℕ → List ℕ → ℕ
 complaintRefusal n s =
     require (eqb (length s) (complaintLength n)) 2

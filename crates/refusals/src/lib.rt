@@ -86,7 +86,7 @@ pub fn dealing_refusal(n: u8, t: u8, a: u8, s: &[u8]) -> u8
     0
 }
 
-// The refusal of a complaint row, or 0.
+// The refusal of a complaint row (verdict), or 0.
 pub fn complaint_refusal(n: u8, s: &[u8]) -> u8
     ensures { λ r. ⌜ r ≡ complaintRefusal n (now (s .entry)) ⌝ }
 {
