@@ -91,8 +91,7 @@ impl Complaints {
     {
         let rows = self.count + 1;
         let j = records::byte(bytes, 2);
-        let before = if 0 < j { j - 1 } else { 0 };
-        let at = before as usize;
+        let at = arrays::predecessor(j) as usize;
         let mut masks = self.masks;
         if at < 32 {
             masks[at] = records::number(bytes, 4) as u64;

@@ -143,7 +143,7 @@ impl Dealings {
     {
         let count = self.count + 1;
         let i = records::byte(bytes, 2);
-        let before = if 0 < i { i - 1 } else { 0 };
+        let before = arrays::predecessor(i);
         let list = self.commitments;
         let commitments = load_commitments(
             list,

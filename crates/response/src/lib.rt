@@ -152,7 +152,7 @@ impl Responses {
         ensures { λ r. ⌜ r ≡ withResponse setup self (now (bytes .entry)) ⌝ }
     {
         let j = records::byte(bytes, 2);
-        let before = if 0 < j { j - 1 } else { 0 };
+        let before = arrays::predecessor(j);
         let list = self.numbers;
         let count = records::batch(setup.n, setup.t) as u16;
         let numbers = load_numbers(list, before as u16 * 32, bytes, count);
