@@ -32,14 +32,18 @@ complaintBytes r j = 86 ∷ 69 ∷ j ∷ 0 ∷ four (maskOf (r .setup .n) (mayBl
 
 -- ---- RE, from a run, j, F(j) and n shares by dealer number, of which only those of QUAL are read or tested for range
 
+-- what is asked of F(j), the shares and the room
+unfoldable pub sharesRefused : Run → ℕ → List ℕ → ℕ → ℕ
+sharesRefused r key shares room =
+    require (eqb (length shares) (r .setup .n)) 10
+    (require (isScalar key && allTo (r .setup .n) (λ i. not (transcriptOf r .qual (i + 1)) || isScalar (getD shares i 0))) 6
+    (require (eqb room (responseLength (r .setup .n) (r .setup .t))) 9 0))
+
 unfoldable pub responseRefused : Run → ℕ → ℕ → List ℕ → ℕ → ℕ
 responseRefused r j key shares room =
     require (eqb (stageOf r) 4) 11
     (require (isParty (r .setup .n) j) 5
-    (require (has (r .complaints .holders) j) 14
-    (require (eqb (length shares) (r .setup .n)) 10
-    (require (isScalar key && allTo (r .setup .n) (λ i. not (transcriptOf r .qual (i + 1)) || isScalar (getD shares i 0))) 6
-    (require (eqb room (responseLength (r .setup .n) (r .setup .t))) 9 0)))))
+    (require (has (r .complaints .holders) j) 14 (sharesRefused r key shares room)))
 
 -- H_u(j): the sum over QUAL of i^(u-1) × H_i(j)
 unfoldable pub combinedShare : ℕ → (ℕ → Bool) → List ℕ → ℕ → Scalar

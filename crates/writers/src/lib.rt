@@ -12,8 +12,7 @@ ghost use Rattle.records.specs.Parameters.{mostParties, batch};
 ghost use Rattle.encoding.specs.Bytes.{fours};
 ghost use Rattle.run.specs.Runs.{wellFormed};
 ghost use Rattle.dealing.specs.Definitions.{mayBlame};
-ghost use Rattle.writers.specs.WriterLaws.{sharesRefused};
-ghost use Rattle.writers.specs.Writers.{complaintRefused, complaintBytes, responseRefused, combinedShare, responseFor, responseBytes};
+ghost use Rattle.writers.specs.Writers.{complaintRefused, complaintBytes, sharesRefused, responseRefused, combinedShare, responseFor, responseBytes};
 use field::Scalar;
 use run::Run;
 
