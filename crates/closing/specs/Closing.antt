@@ -3,6 +3,8 @@ use Prim.Native.Nat.{ℕ, zero, suc, _+_, _*_, _/_, _%_}
 use mathlib.Core.List.{List, [], _∷_, _++_}
 use lib.Dec.{eqb}
 use Rattle.lists.specs.Tests.{pick}
+use Rattle.field.specs.declared.Scalar.{Scalar}
+use Rattle.field.specs.declared.Element.{Element}
 use Rattle.records.specs.Parameters.{batch}
 use Rattle.text.specs.Lines.{line, setLine}
 use Rattle.protocol.specs.Transcript.{nonce}
@@ -26,9 +28,13 @@ sigWord = 115 ∷ 105 ∷ 103 ∷ []
 abbrev pub endWord : List ℕ
 endWord = 101 ∷ 110 ∷ 100 ∷ []
 
--- u, k, R(u,k), φ(u,k)
+-- the line `sig u k R φ`
+abbrev pub sigLine : ℕ → ℕ → Element → Scalar → List ℕ
+sigLine u k v x = line sigWord (u ∷ k ∷ v .0 ∷ x .0 ∷ [])
+
+-- with R(u,k) and φ(u,k) of a run
 unfoldable pub signatureLine : Run → ℕ → ℕ → List ℕ
-signatureLine r u k = line sigWord (u ∷ k ∷ nonce (transcriptOf r) u k .0 ∷ kept r u k .0 ∷ [])
+signatureLine r u k = sigLine u k (nonce (transcriptOf r) u k) (kept r u k)
 
 -- the signatures numbered below m, u outer
 unfoldable pub signatureLines : Run → ℕ → List ℕ

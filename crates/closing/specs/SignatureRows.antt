@@ -15,7 +15,6 @@ use Rattle.interpolation.specs.Definitions.{slot, committedPoint}
 use Rattle.interpolation.specs.Rows.{listed, weightsOf, productOf}
 use Rattle.records.specs.Parameters.{quorum, batch}
 use Rattle.records.specs.Laws.{Bounds, cells-max}
-use Rattle.text.specs.Lines.{line}
 use Rattle.text.specs.LineLaws.{line-max}
 use Rattle.protocol.specs.Transcript.{nonce}
 use Rattle.arrays.specs.Arrays.{cell, commitmentIn, elements}
@@ -24,7 +23,7 @@ use Rattle.response.specs.ResponseLaws.{combined-is}
 use Rattle.run.specs.declared.Run.{Run}
 use Rattle.run.specs.Runs.{transcriptOf, kept}
 use Rattle.answers.specs.Answers.{unblamedOf}
-use Rattle.closing.specs.Closing.{sigWord, signatureLine, signatureLines}
+use Rattle.closing.specs.Closing.{sigWord, sigLine, signatureLine, signatureLines}
 
 -- the slots 1 to k of one u
 unfoldable pub rowLines : Run → ℕ → ℕ → List ℕ
@@ -32,9 +31,9 @@ rowLines r u zero = []
 rowLines r u (suc k) = rowLines r u k ++ signatureLine r u (k + 1)
 
 -- a line from R and φ
-pub line-is : (r : Run) (u k : ℕ) {e : Element} {f : Scalar} → e ≡ nonce (transcriptOf r) u k → f ≡ kept r u k → line sigWord (u ∷ k ∷ e .0 ∷ f .0 ∷ []) ≡ signatureLine r u k
+pub line-is : (r : Run) (u k : ℕ) {e : Element} {f : Scalar} → e ≡ nonce (transcriptOf r) u k → f ≡ kept r u k → sigLine u k e f ≡ signatureLine r u k
 unfolding signatureLine
-line-is r u k p q = ap₂ (λ (e : Element) (f : Scalar). line sigWord (u ∷ k ∷ e .0 ∷ f .0 ∷ [])) p q
+line-is r u k p q = ap₂ (sigLine u k) p q
 
 pub row-next : (r : Run) (u k : ℕ) → rowLines r u (k + 1) ≡ rowLines r u k ++ signatureLine r u (k + 1)
 unfolding rowLines

@@ -1,33 +1,24 @@
 // What a page says of the run after its log: the sets, the signatures and the stage, into a buffer that the caller lends.
 ghost use mathlib.Core.Path.{_≡_};
 ghost use mathlib.Core.Bool.{true};
-ghost use mathlib.Core.List.{[], _∷_};
 ghost use Prim.Native.Nat.{_+_, _*_, _-_, _≤_, _<_};
 ghost use lib.ListN.{length};
 ghost use Rattle.records.specs.Parameters.{mostParties, batch};
-ghost use Rattle.text.specs.Lines.{line};
 ghost use Rattle.text.specs.Texts.{Wrote};
 ghost use Rattle.combination.specs.Combination.{powersAt};
 ghost use Rattle.run.specs.Runs.{wellFormed};
-ghost use Rattle.closing.specs.Closing.{sigWord, signatureLines, closing};
+ghost use Rattle.closing.specs.Closing.{sigLine, signatureLines, closing};
 ghost use Rattle.closing.specs.SignatureRows.{rowLines};
 use field::Element;
 use field::Scalar;
 use run::Run;
 
 // The line of a signature.
-fn put_signature(
-    out: &mut [u8],
-    at: usize,
-    u: u8,
-    k: u8,
-    nonce: Element,
-    signature: Scalar,
-) -> usize
+fn put_signature(out: &mut [u8], at: usize, u: u8, k: u8, nonce: Element, phi: Scalar) -> usize
     requires { ⌜ at + 48 ≤ length (now out) ⌝ }
-    ensures { λ r. ⌜ Wrote (now (out .entry)) (now (out .exit)) at r (line sigWord (u ∷ k ∷ nonce .0 ∷ signature .0 ∷ [])) ⌝ }
+    ensures { λ r. ⌜ Wrote (now (out .entry)) (now (out .exit)) at r (sigLine u k nonce phi) ⌝ }
 {
-    let numbers = [u as u32, k as u32, nonce.0, signature.0];
+    let numbers = [u as u32, k as u32, nonce.0, phi.0];
     text::put_line(out, at, b"sig", &numbers)
 }
 
@@ -46,8 +37,8 @@ fn put_row(out: &mut [u8], at: usize, run: Run, powers: [Element; 1024], u: u8) 
         let nonce = basis
             .weights(interpolation::point(1, k + 1))
             .product(values);
-        let signature = run.signatures[first + k as usize];
-        next = put_signature(out, next, u, k + 1, nonce, signature);
+        let phi = run.signatures[first + k as usize];
+        next = put_signature(out, next, u, k + 1, nonce, phi);
     }
     next
 }

@@ -18,11 +18,15 @@ refuseWord = 114 ∷ 101 ∷ 102 ∷ 117 ∷ 115 ∷ 101 ∷ []
 abbrev pub longWord : List ℕ
 longWord = 108 ∷ 111 ∷ 110 ∷ 103 ∷ []
 
--- for each refused record its position, counted from 1, and its number
+-- the line of a record, if it is refused: its position (place, in document 01), counted from 1, and its number
+unfoldable pub refusalLine : ℕ → ℕ → List ℕ
+refusalLine position number = pick (eqb number 0) [] (line refuseWord (position ∷ number ∷ []))
+
+-- of each refused record
 unfoldable pub refusalLines : ℕ → Run → List (List ℕ) → List ℕ
 refusalLines position r [] = []
 refusalLines position r (s ∷ l) =
-    pick (eqb (stepOf r s .number) 0) [] (line refuseWord (position ∷ stepOf r s .number ∷ []))
+    refusalLine position (stepOf r s .number)
     ++ refusalLines (position + 1) (stepOf r s .run) l
 
 -- the report (page, in document 01) of a log; `long` alone over 65,536 bytes

@@ -46,11 +46,8 @@ pub record Fixed (l : List (List ℕ)) : Type 0 where
   pub bad-is : (i : ℕ) → has (setsOf (after l) .bad) i ≡ bad (accepted l) i
 
 -- they are not fixed, and empty
-pub record Unfixed (l : List (List ℕ)) : Type 0 where
-  pub unfixed : setsOf (after l) .fixed ≡ false
-  pub hold-none : setsOf (after l) .hold ≡ 0
-  pub qual-none : setsOf (after l) .qual ≡ 0
-  pub bad-none : setsOf (after l) .bad ≡ 0
+abbrev pub Unfixed : List (List ℕ) → Type 0
+Unfixed l = setsOf (after l) ≡ noSets
 
 -- the stage is the one that the accepted records bring; the sets are fixed from stage 3 on; and R(u,k) and φ(u,k) are answered where they are
 -- due, and nothing elsewhere
@@ -91,13 +88,9 @@ module _ (l : List (List ℕ)) where
         bad-is = λ i. rw e (made-bad l p i);
       }
 
-  sets-none : stageBy (accepted l) < 3 → setsOf (after l) ≡ noSets
-  unfolding setsOf
-  sets-none m = rw (stage-is, lt-leb 3 (stageBy (accepted l)) m)
-
   sets-unfixed : stageBy (accepted l) < 3 → Unfixed l
-  unfolding noSets
-  sets-unfixed m = let e = sets-none m in record { unfixed = rw e; hold-none = rw e; qual-none = rw e; bad-none = rw e }
+  unfolding setsOf
+  sets-unfixed m = rw (stage-is, lt-leb 3 (stageBy (accepted l)) m)
 
   -- ---- R and φ
 

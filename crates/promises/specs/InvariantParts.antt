@@ -1,14 +1,12 @@
 -- The parts of the invariant with no record, and with one more: what an accepted DE, VE and RE tells, and what it adds. Assumes nothing.
-use mathlib.Core.Path.{_≡_, refl, sym, ap, _∙_}
-use mathlib.Core.Bool.{Bool, true, false, not, _||_}
+use mathlib.Core.Path.{_≡_, sym, ap, _∙_}
+use mathlib.Core.Bool.{Bool, true, not, _||_}
 use mathlib.Core.List.{List, []}
 use Prim.Native.Nat.{ℕ, _+_, _-_, _^_, _≤_, _<_}
 use native.Mathlib.Omega.{arith}
 use native.Mathlib.Decide.{decLt}
 use lib.ListN.{length-set}
-use lib.Dec.{eqb}
-use borrow.Author.Tests.{eqb-true, eqb-false}
-use Rattle.lists.specs.Tests.{pick, allTo, all-at, no-both, not-yes, and-left, passed, orNext}
+use Rattle.lists.specs.Tests.{allTo, all-at, no-both, not-yes, and-left, passed, or-next}
 use Rattle.lists.specs.Members.{all-map, all-snoc}
 use Rattle.lists.specs.Stores.{length-stored, length-filled}
 use Rattle.sets.specs.Masks.{has, insert}
@@ -33,15 +31,6 @@ use Rattle.promises.specs.Lists.{some}
 use Rattle.promises.specs.ListLaws.{snoc, some-snoc}
 use Rattle.promises.specs.Senders.{New, has-pos, senders-none, slots-none, marks-none, senders-more, slots-more, marks-more}
 use Rattle.promises.specs.Invariant.{DealingsOf, ComplaintsOf, ResponsesOf, PassingRow}
-
--- no refusal: none before, and none after
-or-next : (k next : ℕ) → orNext k next ≡ 0 → (k ≡ 0) × (next ≡ 0)
-unfolding orNext
-or-next k next e = go (eqb k 0) refl e
-  where
-    go : (b : Bool) → eqb k 0 ≡ b → pick b next k ≡ 0 → (k ≡ 0) × (next ≡ 0)
-    go true d e = (eqb-true k 0 d, e)
-    go false d e = absurd (eqb-false k 0 d e)
 
 -- ---- no record
 
