@@ -7,6 +7,7 @@ use Rattle.lists.specs.Tests.{pick}
 use Rattle.sets.specs.Masks.{has, members}
 use Rattle.field.specs.Definitions.{scalar, isElement, inverse}
 use Rattle.interpolation.specs.Definitions.{weight}
+use Rattle.records.specs.Tags.{letterC, letterD, letterE, letterH, letterR, letterS, letterU, letterV}
 use Rattle.protocol.specs.Transcript.{nonce}
 use Rattle.run.specs.declared.Run.{Run}
 use Rattle.run.specs.Runs.{transcriptOf, kept}
@@ -25,19 +26,19 @@ fours [] = []
 fours (x ∷ l) = four x ++ fours l
 
 setup : ℕ → ℕ → ℕ → List ℕ → List ℕ
-setup n t a l = 83 ∷ 85 ∷ n ∷ t ∷ a ∷ 0 ∷ fours l
+setup n t a l = letterS ∷ letterU ∷ n ∷ t ∷ a ∷ 0 ∷ fours l
 
 dealing : ℕ → List ℕ → List ℕ
-dealing i l = 68 ∷ 69 ∷ i ∷ 0 ∷ fours l
+dealing i l = letterD ∷ letterE ∷ i ∷ 0 ∷ fours l
 
 complaint : ℕ → ℕ → List ℕ
-complaint j m = 86 ∷ 69 ∷ j ∷ 0 ∷ four m
+complaint j m = letterV ∷ letterE ∷ j ∷ 0 ∷ four m
 
 challenges : List ℕ → List ℕ
-challenges l = 67 ∷ 72 ∷ 0 ∷ 0 ∷ fours l
+challenges l = letterC ∷ letterH ∷ 0 ∷ 0 ∷ fours l
 
 response : ℕ → List ℕ → List ℕ
-response j l = 82 ∷ 69 ∷ j ∷ 0 ∷ fours l
+response j l = letterR ∷ letterE ∷ j ∷ 0 ∷ fours l
 
 -- ---- logs
 

@@ -5,7 +5,7 @@ use lib.Dec.{eqb}
 use Rattle.lists.specs.Tests.{pick}
 use Rattle.field.specs.declared.Scalar.{Scalar}
 use Rattle.field.specs.declared.Element.{Element}
-use Rattle.records.specs.Parameters.{batch}
+use Rattle.records.specs.Parameters.{cells, batch}
 use Rattle.text.specs.Lines.{line, setLine}
 use Rattle.protocol.specs.Transcript.{nonce}
 use Rattle.run.specs.declared.Run.{Run}
@@ -27,6 +27,16 @@ sigWord = 115 ∷ 105 ∷ 103 ∷ []
 
 abbrev pub endWord : List ℕ
 endWord = 101 ∷ 110 ∷ 100 ∷ []
+
+-- the most bytes of a line `sig u k R φ`, of all such lines, and of all that a page says of its run
+abbrev pub mostLine : ℕ
+mostLine = 48
+
+abbrev pub mostLines : ℕ
+mostLines = mostLine * cells
+
+abbrev pub mostClosing : ℕ
+mostClosing = 26000
 
 -- the line `sig u k R φ`
 abbrev pub sigLine : ℕ → ℕ → Element → Scalar → List ℕ

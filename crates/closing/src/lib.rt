@@ -7,15 +7,16 @@ ghost use Rattle.records.specs.Parameters.{mostParties, batch};
 ghost use Rattle.text.specs.Texts.{Wrote};
 ghost use Rattle.combination.specs.Combination.{powersAt};
 ghost use Rattle.run.specs.Runs.{wellFormed};
-ghost use Rattle.closing.specs.Closing.{sigLine, signatureLines, closing};
+ghost use Rattle.closing.specs.Closing.{mostLine, mostLines, mostClosing, sigLine, signatureLines, closing};
 ghost use Rattle.closing.specs.SignatureRows.{rowLines};
 use field::Element;
 use field::Scalar;
+use records::PLACES;
 use run::Run;
 
 // The line of a signature.
 fn put_signature(out: &mut [u8], at: usize, u: u8, k: u8, nonce: Element, phi: Scalar) -> usize
-    requires { ⌜ at + 48 ≤ length (now out) ⌝ }
+    requires { ⌜ at + mostLine ≤ length (now out) ⌝ }
     ensures { λ r. ⌜ Wrote (now (out .entry)) (now (out .exit)) at r (sigLine u k nonce phi) ⌝ }
 {
     let numbers = [u as u32, k as u32, nonce.0, phi.0];
@@ -23,8 +24,8 @@ fn put_signature(out: &mut [u8], at: usize, u: u8, k: u8, nonce: Element, phi: S
 }
 
 // The signature lines of one u, from the powers of the committed values for it: they are combined, and give R(u,k) at each slot k.
-fn put_row(out: &mut [u8], at: usize, run: Run, powers: [Element; 1024], u: u8) -> usize
-    requires { ⌜ (wellFormed run ≡ true) × (0 < u) × (u ≤ batch (run .setup .n) (run .setup .t)) × (powers ≡ powersAt (run .setup .n) (run .dealings .commitments) (u - 1)) × (at + 48 * run .setup .a ≤ length (now out)) ⌝ }
+fn put_row(out: &mut [u8], at: usize, run: Run, powers: [Element; PLACES], u: u8) -> usize
+    requires { ⌜ (wellFormed run ≡ true) × (0 < u) × (u ≤ batch (run .setup .n) (run .setup .t)) × (powers ≡ powersAt (run .setup .n) (run .dealings .commitments) (u - 1)) × (at + mostLine * run .setup .a ≤ length (now out)) ⌝ }
     ensures { λ r. ⌜ Wrote (now (out .entry)) (now (out .exit)) at r (rowLines run u (run .setup .a)) ⌝ }
 {
     let a = run.setup.a;
@@ -45,7 +46,7 @@ fn put_row(out: &mut [u8], at: usize, run: Run, powers: [Element; 1024], u: u8) 
 
 // Every signature line.
 fn put_signatures(out: &mut [u8], at: usize, run: Run) -> usize
-    requires { ⌜ (wellFormed run ≡ true) × (at + 24576 ≤ length (now out)) ⌝ }
+    requires { ⌜ (wellFormed run ≡ true) × (at + mostLines ≤ length (now out)) ⌝ }
     ensures { λ r. ⌜ Wrote (now (out .entry)) (now (out .exit)) at r (signatureLines run (run .setup .a * batch (run .setup .n) (run .setup .t))) ⌝ }
 {
     let count = records::batch(run.setup.n, run.setup.t);
@@ -61,7 +62,7 @@ fn put_signatures(out: &mut [u8], at: usize, run: Run) -> usize
 
 // The sets, at stage 5 every signature, and the stage.
 pub fn put_closing(out: &mut [u8], at: usize, run: Run) -> usize
-    requires { ⌜ (run .setup .n ≤ mostParties) × (at + 26000 ≤ length (now out)) ⌝ }
+    requires { ⌜ (run .setup .n ≤ mostParties) × (at + mostClosing ≤ length (now out)) ⌝ }
     ensures { λ r. ⌜ Wrote (now (out .entry)) (now (out .exit)) at r (closing run) ⌝ }
 {
     let n = run.setup.n;

@@ -15,7 +15,7 @@ use Rattle.field.specs.Definitions.{scalar, generator, IsScalar, product, raise
 use Rattle.field.specs.ElementLaws.{generator-unique, same-is}
 use Rattle.interpolation.specs.Definitions.{party}
 use Rattle.interpolation.specs.Laws.{scalarAt-range}
-use Rattle.records.specs.Parameters.{quorum, batch}
+use Rattle.records.specs.Parameters.{mostParties, quorum, batch}
 use Rattle.records.specs.Bytes.{word, sender}
 use Rattle.records.specs.Tags.{RE}
 use Rattle.protocol.specs.Transcript.{Transcript, passes, nonce, responseAt}
@@ -66,7 +66,7 @@ module _ (l : List (List ℕ)) (e : after l .stage ≡ 5) where
   alike : Alike w (read (accepted l))
   alike = made-alike l (omega arith)
 
-  party-max : r .setup .n ≤ 32
+  party-max : r .setup .n ≤ mostParties
   party-max = live-bounds r _ live .n-max
 
   -- need rows were accepted, of different members of HOLD

@@ -24,7 +24,7 @@ use Rattle.answers.specs.Answers.{noSets}
 use Rattle.log.specs.Cutting.{recordsOf, runOf}
 use Rattle.text.specs.Lines.{line, setText, setLine}
 use Rattle.closing.specs.Closing.{holdWord, qualWord, badWord, endWord, sigLine, signatureLine, signatureLines, closing}
-use Rattle.log.specs.Report.{longWord, refusalLines, reportOf}
+use Rattle.log.specs.Report.{longWord, longest, refusalLines, reportOf}
 use Rattle.promises.specs.Lists.{accepted, hold, bad, qualified, read, phi, stageBy}
 use Rattle.promises.specs.Places.{place-at}
 use Rattle.promises.specs.Made.{made-live, made-alike}
@@ -127,9 +127,9 @@ module _ (l : List (List ℕ)) where
       (ap₂ _++_ signatures-are (ap (λ (g : ℕ). line endWord (g ∷ [])) (h .stage)))))
 
 -- The page of every log is that of its records: `long` alone over 65,536 bytes, else the refusals and the closing lines of the accepted ones.
-pub page-is : (log : List ℕ) → reportOf log ≡ pick (ltb 65536 (length log)) (line longWord []) (refusalLines 1 fresh (recordsOf log) ++ closingOf (accepted (recordsOf log)))
+pub page-is : (log : List ℕ) → reportOf log ≡ pick (ltb longest (length log)) (line longWord []) (refusalLines 1 fresh (recordsOf log) ++ closingOf (accepted (recordsOf log)))
 unfolding reportOf runOf
-page-is log = ap (λ (c : List ℕ). pick (ltb 65536 (length log)) (line longWord []) (refusalLines 1 fresh (recordsOf log) ++ c)) (closing-is (recordsOf log))
+page-is log = ap (λ (c : List ℕ). pick (ltb longest (length log)) (line longWord []) (refusalLines 1 fresh (recordsOf log) ++ c)) (closing-is (recordsOf log))
 
 -- a line `sig u k R φ` prints `nonce (transcriptOf (runOf log)) u k` and `kept (runOf log) u k`: 4^φ = R × S^e(u,k)
 pub printed-signed : (log : List ℕ) → runOf log .stage ≡ 5 → (u k : ℕ) → Place (recordsOf log) u k

@@ -6,7 +6,7 @@ use Prim.Native.Nat.{ℕ, _+_, _*_, _-_, _≤_, _<_}
 use native.Mathlib.Omega.{arith}
 use native.Mathlib.Nat.{mul-le-mul, le-trans}
 use borrow.Author.Tests.{leb-true, le-leb}
-use Rattle.records.specs.Parameters.{mostParties, inBounds, quorum, batch, isParty}
+use Rattle.records.specs.Parameters.{mostParties, cells, inBounds, quorum, batch, isParty}
 use Rattle.records.specs.Tags.{Tag, SU, DE, VE, CH, RE, unknown, code, decoded}
 
 -- ---- tags
@@ -35,11 +35,11 @@ bounds-of n t a e =
     let p = and-eq-true-iff _ _ .0 e in
     let q = and-eq-true-iff _ _ .0 (p .1) in
     let r = and-eq-true-iff _ _ .0 (q .1) in
-    record { t-pos = leb-true 1 t (p .0); a-pos = leb-true 1 a (q .0); n-max = leb-true n 32 (r .0); enough = leb-true (3 * t + 2 * a) (n + 1) (r .1) }
+    record { t-pos = leb-true 1 t (p .0); a-pos = leb-true 1 a (q .0); n-max = leb-true n mostParties (r .0); enough = leb-true (3 * t + 2 * a) (n + 1) (r .1) }
 
 pub bounds-test : {n t a : ℕ} → Bounds n t a → inBounds n t a ≡ true
 unfolding inBounds
-bounds-test {n} {t} {a} b = rw (le-leb 1 t (b .t-pos), le-leb 1 a (b .a-pos), le-leb n 32 (b .n-max), le-leb (3 * t + 2 * a) (n + 1) (b .enough))
+bounds-test {n} {t} {a} b = rw (le-leb 1 t (b .t-pos), le-leb 1 a (b .a-pos), le-leb n mostParties (b .n-max), le-leb (3 * t + 2 * a) (n + 1) (b .enough))
 
 -- a party's number is from 1 to n
 pub party-of : (n i : ℕ) → isParty n i ≡ true → (0 < i) × (i ≤ n)
@@ -75,7 +75,7 @@ unfolding batch
 batch-max b = omega arith
 
 -- the challenges: one for each slot and signature
-pub cells-max : {n t a : ℕ} → Bounds n t a → a * batch n t ≤ 512
+pub cells-max : {n t a : ℕ} → Bounds n t a → a * batch n t ≤ cells
 cells-max {n} {t} {a} b =
     let l : a ≤ 15 = omega arith in
     le-trans (mul-le-mul l (batch-max b)) (omega arith)

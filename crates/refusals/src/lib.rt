@@ -7,6 +7,9 @@ ghost use Rattle.refusals.specs.Refusals.{maskFits, setupRefusal, headRe
 use field::Element;
 use field::Scalar;
 
+// The highest bit of a mask of four bytes.
+const LAST_BIT: u8 = 31;
+
 // Whether the count numbers from a place on are all elements.
 pub fn all_elements(s: &[u8], at: u16, count: u16) -> bool
     ensures { λ r. ⌜ r ≡ allTo count (λ i. isElement (word (now (s .entry)) at i)) ⌝ }
@@ -35,7 +38,7 @@ pub fn all_scalars(s: &[u8], at: u16, count: u16) -> bool
 pub fn mask_fits(n: u8, mask: u32) -> bool
     ensures { λ r. ⌜ r ≡ maskFits n mask ⌝ }
 {
-    if 31 < n {
+    if LAST_BIT < n {
         return true;
     }
     (mask as u64) < (1u64 << n)

@@ -8,7 +8,7 @@ use Rattle.lists.specs.Tests.{pick}
 use Rattle.lists.specs.Stores.{filled}
 use Rattle.field.specs.declared.Scalar.{Scalar}
 use Rattle.field.specs.Definitions.{scalar}
-use Rattle.records.specs.Parameters.{inBounds}
+use Rattle.records.specs.Parameters.{cells, inBounds}
 use Rattle.protocol.specs.Transcript.{Transcript}
 use Rattle.arrays.specs.Arrays.{cell}
 use Rattle.dealing.specs.declared.Setup.{Setup}
@@ -52,7 +52,7 @@ setSignatures r stage x = assembled stage (r .setup) (r .dealings) (r .complaint
 -- ---- a fresh run: stage 0 and every list empty
 
 unfoldable pub noScalars : List Scalar
-noScalars = filled 512 (scalar 0)
+noScalars = filled cells (scalar 0)
 
 unfoldable pub begun : ℕ → Setup → Run
 begun stage setup = assembled stage setup noDealings noComplaints noScalars noResponses noScalars

@@ -16,6 +16,9 @@ ghost use Rattle.writers.specs.Writers.{complaintRefused, complaintBytes
 use field::Scalar;
 use run::Run;
 
+// One more than the largest number of four bytes.
+const WORD: u64 = 4294967296;
+
 // The accepted dealers whose share for j is not valid.
 fn wrong_dealers(run: Run, j: u8) -> u64
     requires { ⌜ run .setup .n ≤ mostParties ⌝ }
@@ -64,7 +67,7 @@ pub fn write_complaint(run: Run, j: u8, out: &mut [u8]) -> u8
     out[1] = b'E';
     out[2] = j;
     out[3] = 0;
-    encoding::put(out, 4, (mask % 4294967296) as u32);
+    encoding::put(out, 4, (mask % WORD) as u32);
     0
 }
 

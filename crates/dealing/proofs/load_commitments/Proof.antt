@@ -5,13 +5,14 @@ use mathlib.Core.Logic.{⊎-elim}
 use mathlib.Core.Path.{ap}
 use Prim.Native.Nat.{_-_}
 use Rattle.field.specs.Definitions.{element}
+use Rattle.records.specs.Parameters.{places}
 use Rattle.records.specs.Bytes.{word}
 use Rattle.lists.specs.Loads.{Loading, loading-none, loading-in, loading-past, loading-end}
 use Rattle.dealing.proofs.load_commitments.Statement.{statement}
 use Rattle.dealing.proofs.load_commitments.Tie as tie
 
 abbrev Inv-loop : tie.InvT-loop
-Inv-loop base bytes count next₀ v₀ next v = Loading 1024 next₀ base count (λ k. element (word bytes 4 k)) v next
+Inv-loop base bytes count next₀ v₀ next v = Loading places next₀ base count (λ k. element (word bytes 4 k)) v next
 
 abbrev μ-loop : tie.MeasureT-loop
 μ-loop base bytes count next₀ v₀ next v = count - v

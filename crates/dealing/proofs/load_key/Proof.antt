@@ -6,26 +6,27 @@ use mathlib.Core.Path.{ap}
 use Prim.Native.Nat.{_-_}
 use Rattle.lists.specs.Stores.{filled, length-filled}
 use Rattle.field.specs.Definitions.{element, identity}
+use Rattle.records.specs.Parameters.{mostParties}
 use Rattle.records.specs.Bytes.{word}
 use Rattle.lists.specs.Loads.{Loading, loading-none, loading-in, loading-past, loading-end}
 use Rattle.dealing.proofs.load_key.Statement.{statement}
 use Rattle.dealing.proofs.load_key.Tie as tie
 
 abbrev Inv-loop : tie.InvT-loop
-Inv-loop bytes count list₀ j₀ list j = Loading 32 (filled 32 identity) 0 count (λ k. element (word bytes 6 k)) j list
+Inv-loop bytes count list₀ j₀ list j = Loading mostParties (filled mostParties identity) 0 count (λ k. element (word bytes 6 k)) j list
 
 abbrev μ-loop : tie.MeasureT-loop
 μ-loop bytes count list₀ j₀ list j = count - j
 
 loop-holds : tie.Need-loop-holds Inv-loop μ-loop
 unfolding filled
-loop-holds c = loading-none (length-filled 32 identity)
+loop-holds c = loading-none (length-filled mostParties identity)
+
+cast-at : tie.Need-cast-at Inv-loop μ-loop
+cast-at c = search needs
 
 word-requires : tie.Need-word-requires Inv-loop μ-loop
 word-requires c κs = search needs
-
-cast-list : tie.Need-cast-list Inv-loop μ-loop
-cast-list c = search needs
 
 mul-list : tie.Need-mul-list Inv-loop μ-loop
 mul-list c = search needs
@@ -54,8 +55,8 @@ load-key-spec =
     Inv-loop
     μ-loop
     loop-holds
+    cast-at
     word-requires
-    cast-list
     mul-list
     array-set-from-list
     add-j

@@ -22,11 +22,11 @@ loop-holds : tie.Need-loop-holds Inv-loop μ-loop
 unfolding filled
 loop-holds c = loading-none (length-filled 64 identity)
 
+cast-at : tie.Need-cast-at Inv-loop μ-loop
+cast-at c = search needs
+
 word-requires : tie.Need-word-requires Inv-loop μ-loop
 word-requires c κs = search needs
-
-cast-list : tie.Need-cast-list Inv-loop μ-loop
-cast-list c = search needs
 
 mul-list : tie.Need-mul-list Inv-loop μ-loop
 mul-list c = search needs
@@ -56,8 +56,8 @@ load-values-spec =
     Inv-loop
     μ-loop
     loop-holds
+    cast-at
     word-requires
-    cast-list
     mul-list
     array-set-from-list
     add-v

@@ -5,13 +5,14 @@ use mathlib.Core.Logic.{⊎-elim}
 use mathlib.Core.Path.{ap}
 use Prim.Native.Nat.{_-_}
 use Rattle.field.specs.Definitions.{scalar}
+use Rattle.records.specs.Parameters.{cells}
 use Rattle.records.specs.Bytes.{word}
 use Rattle.lists.specs.Loads.{Loading, loading-none, loading-in, loading-past, loading-end}
 use Rattle.response.proofs.load_challenges.Statement.{statement}
 use Rattle.response.proofs.load_challenges.Tie as tie
 
 abbrev Inv-loop : tie.InvT-loop
-Inv-loop bytes count next₀ x₀ next x = Loading 512 next₀ 0 count (λ k. scalar (word bytes 4 k)) x next
+Inv-loop bytes count next₀ x₀ next x = Loading cells next₀ 0 count (λ k. scalar (word bytes 4 k)) x next
 
 abbrev μ-loop : tie.MeasureT-loop
 μ-loop bytes count next₀ x₀ next x = count - x
@@ -19,11 +20,11 @@ abbrev μ-loop : tie.MeasureT-loop
 loop-holds : tie.Need-loop-holds Inv-loop μ-loop
 loop-holds c = loading-none (search needs)
 
+cast-at : tie.Need-cast-at Inv-loop μ-loop
+cast-at c = search needs
+
 word-requires : tie.Need-word-requires Inv-loop μ-loop
 word-requires c κs = search needs
-
-cast-next : tie.Need-cast-next Inv-loop μ-loop
-cast-next c = search needs
 
 mul-next : tie.Need-mul-next Inv-loop μ-loop
 mul-next c = search needs
@@ -52,8 +53,8 @@ load-challenges-spec =
     Inv-loop
     μ-loop
     loop-holds
+    cast-at
     word-requires
-    cast-next
     mul-next
     array-set-from-next
     add-x

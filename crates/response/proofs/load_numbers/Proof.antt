@@ -5,13 +5,14 @@ use mathlib.Core.Logic.{⊎-elim}
 use mathlib.Core.Path.{ap}
 use Prim.Native.Nat.{_-_}
 use Rattle.field.specs.Definitions.{scalar}
+use Rattle.records.specs.Parameters.{places}
 use Rattle.records.specs.Bytes.{word}
 use Rattle.lists.specs.Loads.{Loading, loading-none, loading-in, loading-past, loading-end}
 use Rattle.response.proofs.load_numbers.Statement.{statement}
 use Rattle.response.proofs.load_numbers.Tie as tie
 
 abbrev Inv-loop : tie.InvT-loop
-Inv-loop base bytes count next₀ x₀ next x = Loading 1024 next₀ base count (λ k. scalar (word bytes 4 k)) x next
+Inv-loop base bytes count next₀ x₀ next x = Loading places next₀ base count (λ k. scalar (word bytes 4 k)) x next
 
 abbrev μ-loop : tie.MeasureT-loop
 μ-loop base bytes count next₀ x₀ next x = count - x

@@ -28,6 +28,9 @@ predecessor-requires c κs = search needs
 cast-load-commitments : tie.Need-cast-load-commitments
 cast-load-commitments c = search needs
 
+cast-load-commitments-2 : tie.Need-cast-load-commitments-2
+cast-load-commitments-2 c = search needs
+
 mul-load-commitments : tie.Need-mul-load-commitments
 mul-load-commitments c = search needs
 
@@ -79,6 +82,7 @@ with-spec =
     byte-requires
     predecessor-requires
     cast-load-commitments
+    cast-load-commitments-2
     mul-load-commitments
     quorum-requires
     load-commitments-requires

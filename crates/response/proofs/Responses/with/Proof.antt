@@ -20,6 +20,9 @@ cast-count c = search needs
 cast-load-numbers : tie.Need-cast-load-numbers
 cast-load-numbers c = search needs
 
+cast-load-numbers-2 : tie.Need-cast-load-numbers-2
+cast-load-numbers-2 c = search needs
+
 mul-load-numbers : tie.Need-mul-load-numbers
 mul-load-numbers c = search needs
 
@@ -49,6 +52,7 @@ with-spec =
     batch-requires
     cast-count
     cast-load-numbers
+    cast-load-numbers-2
     mul-load-numbers
     load-numbers-requires
     add-answers
