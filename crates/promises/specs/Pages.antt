@@ -22,7 +22,7 @@ use Rattle.run.specs.Runs.{fresh, stageOf, transcriptOf, kept}
 use Rattle.run.specs.Steps.{after}
 use Rattle.answers.specs.Answers.{noSets}
 use Rattle.log.specs.Cutting.{recordsOf, runOf}
-use Rattle.text.specs.Lines.{line, setText, setLine}
+use Rattle.text.specs.Lines.{feed, line, setText, setLine}
 use Rattle.closing.specs.Closing.{holdWord, qualWord, badWord, endWord, sigLine, signatureLine, signatureLines, closing}
 use Rattle.log.specs.Report.{longWord, longest, refusalLines, reportOf}
 use Rattle.promises.specs.Lists.{accepted, hold, bad, qualified, read, phi, stageBy}
@@ -40,7 +40,7 @@ use Rattle.promises.specs.Answers.{answers}
 module _ (l : List (List ℕ)) where
   -- the members of a set, rising; none before the sets are fixed
   unfoldable pub membersLine : List ℕ → (ℕ → Bool) → List ℕ
-  membersLine word set = word ++ (setText (pick (leb 3 (stageBy l)) (members (read l .n) set) []) ++ (10 ∷ []))
+  membersLine word set = word ++ (setText (pick (leb 3 (stageBy l)) (members (read l .n) set) []) ++ (feed ∷ []))
 
   -- the lines `sig u k R φ` numbered below m, u outer
   unfoldable pub signedLines : ℕ → List ℕ
@@ -84,7 +84,7 @@ module _ (l : List (List ℕ)) where
   line-is : (word : List ℕ) (mask : ℕ) (set : ℕ → Bool) → (3 ≤ stageBy (accepted l) → (i : ℕ) → has mask i ≡ set i) → (stageBy (accepted l) < 3 → mask ≡ 0)
       → setLine word (after l .setup .n) mask ≡ membersLine (accepted l) word set
   unfolding setLine membersLine
-  line-is word mask set fixed none = ap (λ (m : List ℕ). word ++ (setText m ++ (10 ∷ []))) (members-are mask set fixed none)
+  line-is word mask set fixed none = ap (λ (m : List ℕ). word ++ (setText m ++ (feed ∷ []))) (members-are mask set fixed none)
 
   -- at stage 5, R(u,k) and φ(u,k) of the list
   signed-lines : after l .stage ≡ 5 → (m : ℕ) → m ≤ read (accepted l) .a * batch (read (accepted l) .n) (read (accepted l) .t) → signatureLines (after l) m ≡ signedLines (accepted l) m
