@@ -97,13 +97,3 @@ module _ {A G : Type 0} {R : CommRing A} {𝓖 : CommMonoid G} (𝓔 : Exponents
     exactG (polyG-base {f = f} g p) x = interp-pow inv pt m g (λ j. f (pt j)) x ∙ ap (λ a. g ^ a) (exact R inv pt m apart p x)
     exactG (polyG-op {h = h} {k = k} p q) x = interp-op inv pt m (λ j. h (pt j)) (λ j. k (pt j)) x ∙ ap₂ _∗_ (exactG p x) (exactG q x)
     exactG (polyG-cong e p) x = interp-cong inv pt m (λ j l. sym (e (pt j))) x ∙ exactG p x ∙ e x
-
-    -- k elements at points xs, interpolated at the points pt, and from these again
-    module _ (xs : ℕ → A) (k : ℕ) (g : ℕ → G) where
-      pub reinterp : k ≤ m → (x : A) → interp inv pt m (λ j. interp inv xs k g (pt j)) x ≡ interp inv xs k g x
-      reinterp l x = exactG (polyG-le l (interp-poly inv xs k g)) x
-
-      -- the same of their power by a polynomial function with at most e coefficients
-      pub reinterp-mul : {E : A → A} {e : ℕ} → Poly R e E → k + e - 1 ≤ m → (x : A)
-          → interp inv pt m (λ j. interp inv xs k g (pt j) ^ E (pt j)) x ≡ interp inv xs k g x ^ E x
-      reinterp-mul p l x = exactG (polyG-le l (polyG-pow (interp-poly inv xs k g) p)) x

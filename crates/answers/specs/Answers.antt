@@ -50,8 +50,8 @@ unfoldable pub nonceOf : Run → ℕ → ℕ → Nonce
 nonceOf r u k = pick ((leb 3 (stageOf r) && leb (stageOf r) 5) && inBatch r u k) (N.Is (nonce (transcriptOf r) u k)) N.None
 
 -- φ(u,k), at stage 5
-unfoldable pub signatureOf : Run → ℕ → ℕ → Signature
-signatureOf r u k = pick (eqb (stageOf r) 5 && inBatch r u k) (S.Is (kept r u k)) S.None
+unfoldable pub phiAnswer : Run → ℕ → ℕ → Signature
+phiAnswer r u k = pick (eqb (stageOf r) 5 && inBatch r u k) (S.Is (kept r u k)) S.None
 
 -- ---- the values of an answer: the one number, or none
 
@@ -59,6 +59,6 @@ unfoldable pub nonceValues : Nonce → List Element
 nonceValues (N.Is v) = v ∷ []
 nonceValues N.None = []
 
-unfoldable pub signatureValues : Signature → List Scalar
-signatureValues (S.Is x) = x ∷ []
-signatureValues S.None = []
+unfoldable pub phiValues : Signature → List Scalar
+phiValues (S.Is x) = x ∷ []
+phiValues S.None = []

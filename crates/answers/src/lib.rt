@@ -1,6 +1,6 @@
 // What a run answers when it is asked: the sets HOLD, QUAL and BAD, R(u,k) and φ(u,k).
 ghost use mathlib.Core.Path.{_≡_};
-ghost use Rattle.answers.specs.Answers.{unblamedOf, setsOf, inBatch, nonceOf, signatureOf};
+ghost use Rattle.answers.specs.Answers.{unblamedOf, setsOf, inBatch, nonceOf, phiAnswer};
 use field::Element;
 use field::Scalar;
 use run::Run;
@@ -93,7 +93,7 @@ pub fn nonce_at(run: Run, u: u8, k: u8) -> Nonce
 
 // φ(u,k), at stage 5.
 pub fn signature_at(run: Run, u: u8, k: u8) -> Signature
-    ensures { λ r. ⌜ r ≡ signatureOf run u k ⌝ }
+    ensures { λ r. ⌜ r ≡ phiAnswer run u k ⌝ }
 {
     if run.stage_of() != 5 {
         return Signature::None;

@@ -1,4 +1,4 @@
--- The public values of a committee as a run keeps them: flat arrays, party i's values from (i - 1) × 32 on.
+-- The public values of a committee as a run keeps them: flat arrays, party i's values from (i - 1) × stride on.
 use Prim.Native.Nat.{ℕ, _+_, _*_, _-_}
 use mathlib.Core.List.{List}
 use lib.ListN.{getD}
@@ -10,10 +10,11 @@ use Rattle.field.specs.Definitions.{scalar, identity}
 use Rattle.interpolation.specs.declared.Row.{Row}
 use Rattle.interpolation.specs.Definitions.{party}
 use Rattle.interpolation.specs.Rows.{listed}
+use Rattle.records.specs.Parameters.{stride}
 
 -- where party i's values begin
 unfoldable pub base : ℕ → ℕ
-base i = (i - 1) * 32
+base i = (i - 1) * stride
 
 -- the place of (u,k), u outer
 unfoldable pub cell : ℕ → ℕ → ℕ → ℕ

@@ -2,13 +2,17 @@
 ghost use mathlib.Core.Path.{_≡_};
 ghost use Prim.Native.Nat.{_+_, _-_, min};
 ghost use lib.ListN.{getD};
-ghost use Rattle.sets.specs.Masks.{has};
 ghost use Rattle.field.specs.Definitions.{identity, generator, sameElement, raise};
 ghost use Rattle.interpolation.specs.Rows.{productOf};
 ghost use Rattle.arrays.specs.Arrays.{challengeIn, memberPoints, memberNumbers, elements, scalars};
 use field::Element;
 use field::Scalar;
+use interpolation::ROW;
 use interpolation::Row;
+use records::CELLS;
+use records::PARTIES;
+use records::PLACES;
+use records::STRIDE;
 
 // One less, and 0 for 0.
 pub fn predecessor(u: u8) -> u8
@@ -17,15 +21,15 @@ pub fn predecessor(u: u8) -> u8
     if 0 < u { u - 1 } else { 0 }
 }
 
-// How many of `count` values an array of 64 takes.
+// How many of `count` values a row takes.
 pub fn capped(count: usize) -> usize
     ensures { λ r. ⌜ r ≡ min count 64 ⌝ }
 {
-    if count < 64 { count } else { 64 }
+    if count < ROW { count } else { ROW }
 }
 
-// Whether a share for j is valid under committed values: the weights are those of the committed points at j.
-pub fn share_fits(weights: Row, values: [Element; 64], share: Scalar) -> bool
+// Whether a share for j is valid (right, in document 01) under committed values: the weights are those of the committed points at j.
+pub fn share_fits(weights: Row, values: [Element; ROW], share: Scalar) -> bool
     ensures { λ r. ⌜ r ≡ sameElement (raise generator share) (productOf weights values) ⌝ }
 {
     let image = weights.product(values);
@@ -34,29 +38,29 @@ pub fn share_fits(weights: Row, values: [Element; 64], share: Scalar) -> bool
 }
 
 // S at the points 1-a to 0, and S_1 to S_t.
-pub fn key_values(key: [Element; 32], t: u8, a: u8) -> [Element; 64]
+pub fn key_values(key: [Element; PARTIES], t: u8, a: u8) -> [Element; ROW]
     ensures { λ r. ⌜ r ≡ elements (t + a) (λ v. getD key (v + 1 - a) identity) ⌝ }
 {
     let packed = a as usize;
     let m = capped(t as usize + packed);
-    let mut values = [Element::ONE; 64];
+    let mut values = [Element::ONE; ROW];
     for v in 0..m {
         let j = if v < packed { 0 } else { v + 1 - packed };
-        values[v] = if j < 32 { key[j] } else { Element::ONE };
+        values[v] = if j < PARTIES { key[j] } else { Element::ONE };
     }
     values
 }
 
 // e(u,1) to e(u,a).
-pub fn challenge_values(list: [Scalar; 512], a: u8, u: u8) -> [Scalar; 64]
+pub fn challenge_values(list: [Scalar; CELLS], a: u8, u: u8) -> [Scalar; ROW]
     ensures { λ r. ⌜ r ≡ scalars a (λ v. challengeIn a list u (v + 1)) ⌝ }
 {
     let m = capped(a as usize);
     let start = predecessor(u) as usize * a as usize;
-    let mut values = [Scalar::ZERO; 64];
+    let mut values = [Scalar::ZERO; ROW];
     for v in 0..m {
         let at = start + v;
-        values[v] = if at < 512 { list[at] } else { Scalar::ZERO };
+        values[v] = if at < CELLS { list[at] } else { Scalar::ZERO };
     }
     values
 }
@@ -65,7 +69,7 @@ pub fn challenge_values(list: [Scalar; 512], a: u8, u: u8) -> [Scalar; 64]
 pub fn member_points(n: u8, set: u64) -> Row
     ensures { λ r. ⌜ r ≡ memberPoints n set ⌝ }
 {
-    let mut at = [Scalar::ZERO; 64];
+    let mut at = [Scalar::ZERO; ROW];
     let mut count: u8 = 0;
     for i in 0..n {
         if sets::has(set, i + 1) {
@@ -80,16 +84,20 @@ pub fn member_points(n: u8, set: u64) -> Row
 }
 
 // Their numbers for u.
-pub fn member_numbers(n: u8, set: u64, numbers: [Scalar; 1024], u: u8) -> [Scalar; 64]
+pub fn member_numbers(n: u8, set: u64, numbers: [Scalar; PLACES], u: u8) -> [Scalar; ROW]
     ensures { λ r. ⌜ r ≡ memberNumbers n set numbers u ⌝ }
 {
     let before = predecessor(u) as usize;
-    let mut values = [Scalar::ZERO; 64];
+    let mut values = [Scalar::ZERO; ROW];
     let mut count: usize = 0;
     for i in 0..n {
         if sets::has(set, i + 1) {
-            let at = i as usize * 32 + before;
-            values[count] = if at < 1024 { numbers[at] } else { Scalar::ZERO };
+            let at = i as usize * STRIDE + before;
+            values[count] = if at < PLACES {
+                numbers[at]
+            } else {
+                Scalar::ZERO
+            };
             count += 1;
         }
     }

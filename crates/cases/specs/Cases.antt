@@ -2,31 +2,19 @@
 use Prim.Native.Nat.{ℕ, _+_, _/_, _%_}
 use mathlib.Core.Path.{_≡_, refl}
 use mathlib.Core.Bool.{Bool}
-use mathlib.Core.List.{List, [], _∷_, _++_, map}
-use Rattle.algebra.specs.Fold.{fold}
-use Rattle.lists.specs.Tests.{pick, allTo, require, orNext}
-use Rattle.lists.specs.Stores.{stored, filled}
-use Rattle.sets.specs.Masks.{bit, has, insert, minus, maskOf, membersFrom, members}
-use Rattle.field.specs.Definitions.{q, P, scalar, powerTo, powerOf, isScalar, isElement, reduced, plus, times, inverseTo, inverseOf, inverse, power, product, raise, sameElement, powered}
-use Rattle.field.specs.Definitions as F
-use Rattle.interpolation.specs.Definitions.{point, factor, weight, scalarAt, elementAt, party, slot, committedPoint}
-use Rattle.records.specs.Parameters.{inBounds, quorum, batch}
-use Rattle.records.specs.Bytes.{byteAt, numberAt, word}
-use Rattle.records.specs.Tags.{tagOf, setupLength, dealingLength, complaintLength, challengesLength, responseLength, sharesFrom}
-use Rattle.refusals.specs.Refusals.{setupRefusal, dealingRefusal, maskFits, complaintRefusal, challengesRefusal, responseRefusal}
+use mathlib.Core.List.{List, [], _∷_, _++_, map, flatten}
+use Rattle.lists.specs.Tests.{pick}
+use Rattle.sets.specs.Masks.{has, members}
+use Rattle.field.specs.Definitions.{scalar, isElement, inverse}
+use Rattle.interpolation.specs.Definitions.{weight}
+use Rattle.records.specs.Tags.{letterC, letterD, letterE, letterH, letterR, letterS, letterU, letterV}
+use Rattle.protocol.specs.Transcript.{nonce}
 use Rattle.run.specs.declared.Run.{Run}
-use Rattle.protocol.specs.Transcript.{dealingAt, validShare, coefficient, keyAt, combinedAt, nonce, challengeAt, responseAt, passes, exponent, productOver, dealerFactor}
-use Rattle.arrays.specs.Arrays.{base, cell}
-use Rattle.dealing.specs.Definitions.{noSetup, noDealings, setupOf, dealingNumber, wrongShares, withDealing, mayBlame, keyIn}
-use Rattle.complaint.specs.Definitions.{noComplaints, complaintNumber, withComplaint, complaintStage, maskBy, blamedBy, unblamed}
-use Rattle.response.specs.Definitions.{noResponses, phiOf, responseNumber, withResponse, transcript, signaturesOf}
-use Rattle.run.specs.Runs.{noScalars, begun, fresh, wellFormed, stageOf, transcriptOf, kept}
-use Rattle.answers.specs.Answers.{setsOf, unblamedOf, badOf, noSets, keptSets}
-use Rattle.log.specs.Cutting.{lengthAt, lengthOf, whole, cutFrom, recordsOf, runOf}
-use Rattle.text.specs.Lines.{decimalTo, decimal, field, fields, line, setText, setLine}
-use Rattle.closing.specs.Closing.{signatureLine, signatureLines, closing}
-use Rattle.log.specs.Report.{refusalLines, reportOf}
-use Rattle.run.specs.Steps.{afterSetup, afterDealing, afterComplaint, afterChallenges, withRow, finished, afterResponse, takenAt, atStage, handlerAt, handled, stepOf, afterFrom, after}
+use Rattle.run.specs.Runs.{transcriptOf, kept}
+use Rattle.run.specs.Steps.{stepOf, after}
+use Rattle.answers.specs.Answers.{setsOf}
+use Rattle.log.specs.Report.{reportOf}
+use Rattle.cases.specs.Opened.{opened}
 
 -- ---- records
 
@@ -38,19 +26,19 @@ fours [] = []
 fours (x ∷ l) = four x ++ fours l
 
 setup : ℕ → ℕ → ℕ → List ℕ → List ℕ
-setup n t a l = 83 ∷ 85 ∷ n ∷ t ∷ a ∷ 0 ∷ fours l
+setup n t a l = letterS ∷ letterU ∷ n ∷ t ∷ a ∷ 0 ∷ fours l
 
 dealing : ℕ → List ℕ → List ℕ
-dealing i l = 68 ∷ 69 ∷ i ∷ 0 ∷ fours l
+dealing i l = letterD ∷ letterE ∷ i ∷ 0 ∷ fours l
 
 complaint : ℕ → ℕ → List ℕ
-complaint j m = 86 ∷ 69 ∷ j ∷ 0 ∷ four m
+complaint j m = letterV ∷ letterE ∷ j ∷ 0 ∷ four m
 
 challenges : List ℕ → List ℕ
-challenges l = 67 ∷ 72 ∷ 0 ∷ 0 ∷ fours l
+challenges l = letterC ∷ letterH ∷ 0 ∷ 0 ∷ fours l
 
 response : ℕ → List ℕ → List ℕ
-response j l = 82 ∷ 69 ∷ j ∷ 0 ∷ fours l
+response j l = letterR ∷ letterE ∷ j ∷ 0 ∷ fours l
 
 -- ---- logs
 
@@ -72,10 +60,6 @@ challenged x y m = held x y m ++ (challenges (1 ∷ 2 ∷ []) ∷ [])
 worked : List (List ℕ)
 worked = challenged 1 4 0 ++ (response 2 (10 ∷ 22 ∷ []) ∷ response 3 (13 ∷ 28 ∷ []) ∷ [])
 
-joined : List (List ℕ) → List ℕ
-joined [] = []
-joined (s ∷ l) = s ++ joined l
-
 -- ---- what is said of them
 
 -- HOLD, QUAL, BAD; R and φ of (1,1) and (2,1); the stage
@@ -91,12 +75,9 @@ answer l s = stepOf (after l) s .number ∷ []
 test : Bool → List ℕ
 test b = pick b (1 ∷ []) (0 ∷ [])
 
-keys : ℕ → List ℕ
-keys n = 4 ∷ filled n 16
-
 -- the page of a list of records, end to end
 page : List (List ℕ) → List (List ℕ)
-page l = reportOf (joined l) ∷ []
+page l = reportOf (flatten l) ∷ []
 
 -- document 01's page, line by line
 workedPage : List ℕ
@@ -152,5 +133,5 @@ cases =
 
 -- every case comes out as document 01 says
 computed : map (λ c. c .0) cases ≡ map (λ c. c .1) cases
-unfolding worked joined page workedPage lengthAt lengthOf whole cutFrom recordsOf runOf decimalTo decimal field fields line refusalLines setText setLine signatureLine signatureLines closing reportOf four fours setup dealing complaint challenges response su dealt held challenged said answer test cases fold allTo require stored filled bit has insert minus maskOf membersFrom q P powerTo powerOf isScalar isElement reduced plus F.minus times inverseTo inverseOf inverse power product raise point factor weight scalarAt elementAt inBounds quorum batch byteAt numberAt word tagOf setupLength dealingLength complaintLength challengesLength responseLength setupRefusal sharesFrom dealingRefusal maskFits complaintRefusal challengesRefusal responseRefusal dealingAt validShare coefficient keyAt combinedAt nonce challengeAt responseAt passes noSetup noDealings noComplaints noResponses noScalars begun fresh wellFormed stageOf base cell transcriptOf setsOf phiOf kept orNext setupOf afterSetup dealingNumber wrongShares withDealing afterDealing mayBlame complaintNumber withComplaint complaintStage afterComplaint afterChallenges responseNumber withResponse withRow finished afterResponse stepOf afterFrom after sameElement powered party slot committedPoint exponent productOver dealerFactor keyIn maskBy blamedBy unblamed transcript signaturesOf takenAt atStage handlerAt handled unblamedOf badOf noSets keptSets
+unfolding opened four fours setup dealing complaint challenges response su dealt held challenged said answer test cases worked page workedPage
 computed = refl

@@ -1,31 +1,10 @@
 -- One more computed log: packing 2, QUAL 2 3 5 6 (no first part of the dealers' numbers), a refused complaint row, a number in range that is no
 -- element, a response row from outside HOLD and one that fails. The second implementation prints the same page. Assumes nothing.
-use Prim.Native.Nat.{ℕ, _+_}
+use Prim.Native.Nat.{ℕ}
 use mathlib.Core.Path.{_≡_, refl}
-use mathlib.Core.List.{List, [], _∷_, _++_}
-use Rattle.algebra.specs.Fold.{fold}
-use Rattle.lists.specs.Tests.{allTo, require, orNext}
-use Rattle.lists.specs.Stores.{stored, filled}
-use Rattle.sets.specs.Masks.{bit, has, insert, minus, maskOf, membersFrom}
-use Rattle.field.specs.Definitions.{q, P, powerTo, powerOf, isScalar, isElement, reduced, plus, times, inverseTo, inverseOf, inverse, power, product, raise, sameElement, powered}
-use Rattle.field.specs.Definitions as F
-use Rattle.interpolation.specs.Definitions.{point, factor, weight, scalarAt, elementAt, party, slot, committedPoint}
-use Rattle.records.specs.Parameters.{inBounds, quorum, batch}
-use Rattle.records.specs.Bytes.{byteAt, numberAt, word}
-use Rattle.records.specs.Tags.{tagOf, setupLength, dealingLength, complaintLength, challengesLength, responseLength, sharesFrom}
-use Rattle.refusals.specs.Refusals.{setupRefusal, dealingRefusal, maskFits, complaintRefusal, challengesRefusal, responseRefusal}
-use Rattle.protocol.specs.Transcript.{dealingAt, validShare, coefficient, keyAt, combinedAt, nonce, challengeAt, responseAt, passes, exponent, productOver, dealerFactor}
-use Rattle.arrays.specs.Arrays.{base, cell}
-use Rattle.dealing.specs.Definitions.{noSetup, noDealings, setupOf, dealingNumber, wrongShares, withDealing, mayBlame, keyIn}
-use Rattle.complaint.specs.Definitions.{noComplaints, complaintNumber, withComplaint, complaintStage, maskBy, blamedBy, unblamed}
-use Rattle.response.specs.Definitions.{noResponses, phiOf, responseNumber, withResponse, transcript, signaturesOf}
-use Rattle.run.specs.Runs.{noScalars, begun, fresh, wellFormed, stageOf, transcriptOf, kept}
-use Rattle.answers.specs.Answers.{setsOf, unblamedOf, badOf, noSets, keptSets}
-use Rattle.log.specs.Cutting.{lengthAt, lengthOf, whole, cutFrom, recordsOf, runOf}
-use Rattle.text.specs.Lines.{decimalTo, decimal, field, fields, line, setText, setLine}
-use Rattle.closing.specs.Closing.{signatureLine, signatureLines, closing}
-use Rattle.log.specs.Report.{refusalLines, reportOf}
-use Rattle.run.specs.Steps.{afterSetup, afterDealing, afterComplaint, afterChallenges, withRow, finished, afterResponse, takenAt, atStage, handlerAt, handled, stepOf, afterFrom, after}
+use mathlib.Core.List.{List, [], _∷_, flatten}
+use Rattle.log.specs.Report.{reportOf}
+use Rattle.cases.specs.Opened.{opened}
 
 packed : List (List ℕ)
 packed =
@@ -51,10 +30,6 @@ packed =
     ∷ (82 ∷ 69 ∷ 3 ∷ 0 ∷ 7 ∷ 197 ∷ 40 ∷ 44 ∷ 8 ∷ 230 ∷ 52 ∷ 108 ∷ 3 ∷ 57 ∷ 211 ∷ 28 ∷ 2 ∷ 172 ∷ 160 ∷ 226 ∷ [])
     ∷ []
 
-joined : List (List ℕ) → List ℕ
-joined [] = []
-joined (s ∷ l) = s ++ joined l
-
 packedPage : List ℕ
 packedPage =
     114 ∷ 101 ∷ 102 ∷ 117 ∷ 115 ∷ 101 ∷ 32 ∷ 51 ∷ 32 ∷ 55 ∷ 10
@@ -74,6 +49,6 @@ packedPage =
     ∷ 115 ∷ 105 ∷ 103 ∷ 32 ∷ 52 ∷ 32 ∷ 50 ∷ 32 ∷ 53 ∷ 52 ∷ 48 ∷ 54 ∷ 50 ∷ 54 ∷ 50 ∷ 52 ∷ 53 ∷ 32 ∷ 52 ∷ 57 ∷ 57 ∷ 49 ∷ 52 ∷ 56 ∷ 56 ∷ 51 ∷ 51 ∷ 10
     ∷ 101 ∷ 110 ∷ 100 ∷ 32 ∷ 53 ∷ 10 ∷ []
 
-computed : reportOf (joined packed) ≡ packedPage
-unfolding packed joined packedPage lengthAt lengthOf whole cutFrom recordsOf runOf decimalTo decimal field fields line refusalLines setText setLine signatureLine signatureLines closing reportOf fold allTo require stored filled bit has insert minus maskOf membersFrom q P powerTo powerOf isScalar isElement reduced plus F.minus times inverseTo inverseOf inverse power product raise point factor weight scalarAt elementAt inBounds quorum batch byteAt numberAt word tagOf setupLength dealingLength complaintLength challengesLength responseLength setupRefusal sharesFrom dealingRefusal maskFits complaintRefusal challengesRefusal responseRefusal dealingAt validShare coefficient keyAt combinedAt nonce challengeAt responseAt passes noSetup noDealings noComplaints noResponses noScalars begun fresh wellFormed stageOf base cell transcriptOf setsOf phiOf kept orNext setupOf afterSetup dealingNumber wrongShares withDealing afterDealing mayBlame complaintNumber withComplaint complaintStage afterComplaint afterChallenges responseNumber withResponse withRow finished afterResponse stepOf afterFrom after sameElement powered party slot committedPoint exponent productOver dealerFactor keyIn maskBy blamedBy unblamed transcript signaturesOf takenAt atStage handlerAt handled unblamedOf badOf noSets keptSets
+computed : reportOf (flatten packed) ≡ packedPage
+unfolding opened packed packedPage
 computed = refl

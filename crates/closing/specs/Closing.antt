@@ -3,7 +3,9 @@ use Prim.Native.Nat.{ℕ, zero, suc, _+_, _*_, _/_, _%_}
 use mathlib.Core.List.{List, [], _∷_, _++_}
 use lib.Dec.{eqb}
 use Rattle.lists.specs.Tests.{pick}
-use Rattle.records.specs.Parameters.{batch}
+use Rattle.field.specs.declared.Scalar.{Scalar}
+use Rattle.field.specs.declared.Element.{Element}
+use Rattle.records.specs.Parameters.{cells, batch}
 use Rattle.text.specs.Lines.{line, setLine}
 use Rattle.protocol.specs.Transcript.{nonce}
 use Rattle.run.specs.declared.Run.{Run}
@@ -26,9 +28,23 @@ sigWord = 115 ∷ 105 ∷ 103 ∷ []
 abbrev pub endWord : List ℕ
 endWord = 101 ∷ 110 ∷ 100 ∷ []
 
--- u, k, R(u,k), φ(u,k)
+-- the most bytes of a line `sig u k R φ`, of all such lines, and of all that a page says of its run
+abbrev pub mostLine : ℕ
+mostLine = 48
+
+abbrev pub mostLines : ℕ
+mostLines = mostLine * cells
+
+abbrev pub mostClosing : ℕ
+mostClosing = 26000
+
+-- the line `sig u k R φ`
+abbrev pub sigLine : ℕ → ℕ → Element → Scalar → List ℕ
+sigLine u k v x = line sigWord (u ∷ k ∷ v .0 ∷ x .0 ∷ [])
+
+-- with R(u,k) and φ(u,k) of a run
 unfoldable pub signatureLine : Run → ℕ → ℕ → List ℕ
-signatureLine r u k = line sigWord (u ∷ k ∷ nonce (transcriptOf r) u k .0 ∷ kept r u k .0 ∷ [])
+signatureLine r u k = sigLine u k (nonce (transcriptOf r) u k) (kept r u k)
 
 -- the signatures numbered below m, u outer
 unfoldable pub signatureLines : Run → ℕ → List ℕ

@@ -13,9 +13,8 @@ use Rattle.field.specs.declared.Element.{Element}
 use Rattle.field.specs.Definitions.{scalar}
 use Rattle.interpolation.specs.Definitions.{slot, committedPoint}
 use Rattle.interpolation.specs.Rows.{listed, weightsOf, productOf}
-use Rattle.records.specs.Parameters.{quorum, batch}
+use Rattle.records.specs.Parameters.{cells, quorum, batch}
 use Rattle.records.specs.Laws.{Bounds, cells-max}
-use Rattle.text.specs.Lines.{line}
 use Rattle.text.specs.LineLaws.{line-max}
 use Rattle.protocol.specs.Transcript.{nonce}
 use Rattle.arrays.specs.Arrays.{cell, commitmentIn, elements}
@@ -24,7 +23,7 @@ use Rattle.response.specs.ResponseLaws.{combined-is}
 use Rattle.run.specs.declared.Run.{Run}
 use Rattle.run.specs.Runs.{transcriptOf, kept}
 use Rattle.answers.specs.Answers.{unblamedOf}
-use Rattle.closing.specs.Closing.{sigWord, signatureLine, signatureLines}
+use Rattle.closing.specs.Closing.{sigWord, mostLine, sigLine, signatureLine, signatureLines}
 
 -- the slots 1 to k of one u
 unfoldable pub rowLines : Run → ℕ → ℕ → List ℕ
@@ -32,9 +31,9 @@ rowLines r u zero = []
 rowLines r u (suc k) = rowLines r u k ++ signatureLine r u (k + 1)
 
 -- a line from R and φ
-pub line-is : (r : Run) (u k : ℕ) {e : Element} {f : Scalar} → e ≡ nonce (transcriptOf r) u k → f ≡ kept r u k → line sigWord (u ∷ k ∷ e .0 ∷ f .0 ∷ []) ≡ signatureLine r u k
+pub line-is : (r : Run) (u k : ℕ) {e : Element} {f : Scalar} → e ≡ nonce (transcriptOf r) u k → f ≡ kept r u k → sigLine u k e f ≡ signatureLine r u k
 unfolding signatureLine
-line-is r u k p q = ap₂ (λ (e : Element) (f : Scalar). line sigWord (u ∷ k ∷ e .0 ∷ f .0 ∷ [])) p q
+line-is r u k p q = ap₂ (sigLine u k) p q
 
 pub row-next : (r : Run) (u k : ℕ) → rowLines r u (k + 1) ≡ rowLines r u k ++ signatureLine r u (k + 1)
 unfolding rowLines
@@ -63,18 +62,18 @@ rows-next r u = rows-and r u (r .setup .a) (omega arith) ∙ ap (signatureLines 
 
 -- ---- lengths
 
-signature-max : (r : Run) (u k : ℕ) → length (signatureLine r u k) ≤ 48
+signature-max : (r : Run) (u k : ℕ) → length (signatureLine r u k) ≤ mostLine
 unfolding signatureLine
-signature-max r u k = line-max sigWord (u ∷ k ∷ nonce (transcriptOf r) u k .0 ∷ kept r u k .0 ∷ [])
+signature-max r u k = line-max sigWord _
 
-pub signatures-max : (r : Run) (m : ℕ) → length (signatureLines r m) ≤ 48 * m
+pub signatures-max : (r : Run) (m : ℕ) → length (signatureLines r m) ≤ mostLine * m
 unfolding signatureLines
 signatures-max r zero = omega arith
 signatures-max r (suc m) =
     let a = r .setup .a in
     omega (arith, length-append (signatureLines r m) (signatureLine r (m / a + 1) (m % a + 1)), signatures-max r m, signature-max r (m / a + 1) (m % a + 1))
 
-pub row-max : (r : Run) (u k : ℕ) → length (rowLines r u k) ≤ 48 * k
+pub row-max : (r : Run) (u k : ℕ) → length (rowLines r u k) ≤ mostLine * k
 unfolding rowLines
 row-max r u zero = omega arith
 row-max r u (suc k) = omega (arith, length-append (rowLines r u k) (signatureLine r u (k + 1)), row-max r u k, signature-max r u (k + 1))
@@ -94,7 +93,7 @@ pub kept-at : (r : Run) (u k : ℕ) → kept r u (k + 1) ≡ getD (r .signatures
 unfolding kept cell
 kept-at r u k = ap (λ (j : ℕ). getD (r .signatures) ((u - 1) * r .setup .a + j) (scalar 0)) (omega arith)
 
-pub kept-below : {n t a : ℕ} → Bounds n t a → (u k : ℕ) → 0 < u → u ≤ batch n t → k < a → (u - 1) * a + k < 512
+pub kept-below : {n t a : ℕ} → Bounds n t a → (u k : ℕ) → 0 < u → u ≤ batch n t → k < a → (u - 1) * a + k < cells
 kept-below {n} {t} {a} b u k p l c =
     let m : (u - 1) * a + k < batch n t * a = digits-lt (omega arith) c in
     omega (arith, cells-max b, mul-comm (batch n t) a)

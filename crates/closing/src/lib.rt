@@ -1,39 +1,31 @@
 // What a page says of the run after its log: the sets, the signatures and the stage, into a buffer that the caller lends.
 ghost use mathlib.Core.Path.{_≡_};
 ghost use mathlib.Core.Bool.{true};
-ghost use mathlib.Core.List.{[], _∷_};
 ghost use Prim.Native.Nat.{_+_, _*_, _-_, _≤_, _<_};
 ghost use lib.ListN.{length};
 ghost use Rattle.records.specs.Parameters.{mostParties, batch};
-ghost use Rattle.text.specs.Lines.{line};
 ghost use Rattle.text.specs.Texts.{Wrote};
 ghost use Rattle.combination.specs.Combination.{powersAt};
 ghost use Rattle.run.specs.Runs.{wellFormed};
-ghost use Rattle.closing.specs.Closing.{sigWord, signatureLines, closing};
+ghost use Rattle.closing.specs.Closing.{mostLine, mostLines, mostClosing, sigLine, signatureLines, closing};
 ghost use Rattle.closing.specs.SignatureRows.{rowLines};
 use field::Element;
 use field::Scalar;
+use records::PLACES;
 use run::Run;
 
 // The line of a signature.
-fn put_signature(
-    out: &mut [u8],
-    at: usize,
-    u: u8,
-    k: u8,
-    nonce: Element,
-    signature: Scalar,
-) -> usize
-    requires { ⌜ at + 48 ≤ length (now out) ⌝ }
-    ensures { λ r. ⌜ Wrote (now (out .entry)) (now (out .exit)) at r (line sigWord (u ∷ k ∷ nonce .0 ∷ signature .0 ∷ [])) ⌝ }
+fn put_signature(out: &mut [u8], at: usize, u: u8, k: u8, nonce: Element, phi: Scalar) -> usize
+    requires { ⌜ at + mostLine ≤ length (now out) ⌝ }
+    ensures { λ r. ⌜ Wrote (now (out .entry)) (now (out .exit)) at r (sigLine u k nonce phi) ⌝ }
 {
-    let numbers = [u as u32, k as u32, nonce.0, signature.0];
+    let numbers = [u as u32, k as u32, nonce.0, phi.0];
     text::put_line(out, at, b"sig", &numbers)
 }
 
 // The signature lines of one u, from the powers of the committed values for it: they are combined, and give R(u,k) at each slot k.
-fn put_row(out: &mut [u8], at: usize, run: Run, powers: [Element; 1024], u: u8) -> usize
-    requires { ⌜ (wellFormed run ≡ true) × (0 < u) × (u ≤ batch (run .setup .n) (run .setup .t)) × (powers ≡ powersAt (run .setup .n) (run .dealings .commitments) (u - 1)) × (at + 48 * run .setup .a ≤ length (now out)) ⌝ }
+fn put_row(out: &mut [u8], at: usize, run: Run, powers: [Element; PLACES], u: u8) -> usize
+    requires { ⌜ (wellFormed run ≡ true) × (0 < u) × (u ≤ batch (run .setup .n) (run .setup .t)) × (powers ≡ powersAt (run .setup .n) (run .dealings .commitments) (u - 1)) × (at + mostLine * run .setup .a ≤ length (now out)) ⌝ }
     ensures { λ r. ⌜ Wrote (now (out .entry)) (now (out .exit)) at r (rowLines run u (run .setup .a)) ⌝ }
 {
     let a = run.setup.a;
@@ -46,15 +38,15 @@ fn put_row(out: &mut [u8], at: usize, run: Run, powers: [Element; 1024], u: u8) 
         let nonce = basis
             .weights(interpolation::point(1, k + 1))
             .product(values);
-        let signature = run.signatures[first + k as usize];
-        next = put_signature(out, next, u, k + 1, nonce, signature);
+        let phi = run.signatures[first + k as usize];
+        next = put_signature(out, next, u, k + 1, nonce, phi);
     }
     next
 }
 
 // Every signature line.
 fn put_signatures(out: &mut [u8], at: usize, run: Run) -> usize
-    requires { ⌜ (wellFormed run ≡ true) × (at + 24576 ≤ length (now out)) ⌝ }
+    requires { ⌜ (wellFormed run ≡ true) × (at + mostLines ≤ length (now out)) ⌝ }
     ensures { λ r. ⌜ Wrote (now (out .entry)) (now (out .exit)) at r (signatureLines run (run .setup .a * batch (run .setup .n) (run .setup .t))) ⌝ }
 {
     let count = records::batch(run.setup.n, run.setup.t);
@@ -70,7 +62,7 @@ fn put_signatures(out: &mut [u8], at: usize, run: Run) -> usize
 
 // The sets, at stage 5 every signature, and the stage.
 pub fn put_closing(out: &mut [u8], at: usize, run: Run) -> usize
-    requires { ⌜ (run .setup .n ≤ mostParties) × (at + 26000 ≤ length (now out)) ⌝ }
+    requires { ⌜ (run .setup .n ≤ mostParties) × (at + mostClosing ≤ length (now out)) ⌝ }
     ensures { λ r. ⌜ Wrote (now (out .entry)) (now (out .exit)) at r (closing run) ⌝ }
 {
     let n = run.setup.n;

@@ -1,4 +1,4 @@
--- The committed values of dealers, combined for u, as flat arrays: party i's values from (i - 1) × 32 on.
+-- The committed values of dealers, combined for u, as flat arrays: party i's values from (i - 1) × stride on.
 use Prim.Native.Nat.{ℕ, zero, suc, _+_, _*_, _/_}
 use mathlib.Core.Bool.{Bool}
 use mathlib.Core.List.{List}
@@ -6,6 +6,7 @@ use lib.ListN.{getD}
 use Rattle.lists.specs.Stores.{stored}
 use Rattle.field.specs.declared.Element.{Element}
 use Rattle.field.specs.Definitions.{identity, powered}
+use Rattle.records.specs.Parameters.{stride}
 use Rattle.protocol.specs.Transcript.{exponent, productOver}
 
 -- the committed values combined for u: at v the product over a set of dealers of V_i(v)^(i^(u-1))
@@ -14,7 +15,7 @@ combinedValue n qual commitment u v = productOver n qual (λ i. powered (commitm
 
 -- the committed values of n dealers, each to the power of its dealer's number
 unfoldable pub raised : ℕ → List Element → List Element
-raised n list = stored list 0 (n * 32) (λ p. powered (getD list p identity) (p / 32 + 1))
+raised n list = stored list 0 (n * stride) (λ p. powered (getD list p identity) (p / stride + 1))
 
 -- the committed values to the power of i^u, by u such steps
 unfoldable pub powersAt : ℕ → List Element → ℕ → List Element

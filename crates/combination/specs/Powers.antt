@@ -12,6 +12,7 @@ use Rattle.lists.specs.Stores.{stored, filled, length-stored, stored-from, stor
 use Rattle.field.specs.declared.Element.{Element}
 use Rattle.field.specs.Definitions.{identity, powered}
 use Rattle.field.specs.ElementLaws.{identity-powered, powered-powered, powered-swap}
+use Rattle.records.specs.Parameters.{stride}
 use Rattle.protocol.specs.Transcript.{exponent}
 use Rattle.protocol.specs.Products.{productOver-cong, exponent-first}
 use Rattle.arrays.specs.Arrays.{base, commitmentIn, elements}
@@ -27,27 +28,27 @@ unfolding powersAt
 powers-next n list u e f = f ∙ ap (raised n) e ∙ ap (powersAt n list) (sym (add-one u))
 
 -- a value to the power of its dealer's number, past the array's end too
-raised-getD : (n : ℕ) (list : List Element) (p : ℕ) → p < n * 32 → getD (raised n list) p identity ≡ powered (getD list p identity) (p / 32 + 1)
+raised-getD : (n : ℕ) (list : List Element) (p : ℕ) → p < n * stride → getD (raised n list) p identity ≡ powered (getD list p identity) (p / stride + 1)
 unfolding raised
-raised-getD n list p l = ap (λ (r : List Element). getD r p identity) (sym (stored-capped list (n * 32) f)) ∙ go (decLt p (length list))
+raised-getD n list p l = ap (λ (r : List Element). getD r p identity) (sym (stored-capped list (n * stride) f)) ∙ go (decLt p (length list))
   where
     f : ℕ → Element
-    f k = powered (getD list k identity) (k / 32 + 1)
+    f k = powered (getD list k identity) (k / stride + 1)
 
-    go : Dec (p < length list) → getD (stored list 0 (min (n * 32) (length list)) f) p identity ≡ f p
-    go (yes h) = stored-from list (min (n * 32) (length list)) f identity (omega arith) p (omega arith)
+    go : Dec (p < length list) → getD (stored list 0 (min (n * stride) (length list)) f) p identity ≡ f p
+    go (yes h) = stored-from list (min (n * stride) (length list)) f identity (omega arith) p (omega arith)
     go (no h) =
-        List·getD-eq-default (stored list 0 (min (n * 32) (length list)) f) identity {n = p} (omega (arith, length-stored list 0 (min (n * 32) (length list)) f))
-        ∙ sym (ap (λ (v : Element). powered v (p / 32 + 1)) (List·getD-eq-default list identity {n = p} (omega arith)) ∙ identity-powered (p / 32 + 1))
+        List·getD-eq-default (stored list 0 (min (n * stride) (length list)) f) identity {n = p} (omega (arith, length-stored list 0 (min (n * stride) (length list)) f))
+        ∙ sym (ap (λ (v : Element). powered v (p / stride + 1)) (List·getD-eq-default list identity {n = p} (omega arith)) ∙ identity-powered (p / stride + 1))
 
-raised-at : (n : ℕ) (list : List Element) (i v : ℕ) → 0 < i → i ≤ n → v < 32 → commitmentIn (raised n list) i v ≡ powered (commitmentIn list i v) i
+raised-at : (n : ℕ) (list : List Element) (i v : ℕ) → 0 < i → i ≤ n → v < stride → commitmentIn (raised n list) i v ≡ powered (commitmentIn list i v) i
 unfolding base
 raised-at n list i v p l h =
-    let number : (base i + v) / 32 + 1 ≡ i = omega arith in
+    let number : (base i + v) / stride + 1 ≡ i = omega arith in
     raised-getD n list (base i + v) (omega arith) ∙ ap (powered (commitmentIn list i v)) number
 
 -- and after u of them, modulo P
-power-at : (n : ℕ) (list : List Element) (i v : ℕ) → 0 < i → i ≤ n → v < 32 → (u : ℕ)
+power-at : (n : ℕ) (list : List Element) (i v : ℕ) → 0 < i → i ≤ n → v < stride → (u : ℕ)
     → powered (commitmentIn (powersAt n list u) i v) 1 ≡ powered (commitmentIn list i v) (i ^ u)
 unfolding powersAt
 power-at n list i v p l h zero = ap (powered (commitmentIn list i v)) (sym (pow-zero i))
@@ -60,13 +61,13 @@ power-at n list i v p l h (suc u) =
 
 -- combined for the u whose powers these are
 module _ (n : ℕ) (qual : ℕ → Bool) (list : List Element) (u : ℕ) where
-  combined-power : (v : ℕ) → v < 32 → combinedValue n qual (commitmentIn (powersAt n list (u - 1))) 1 v ≡ combinedValue n qual (commitmentIn list) u v
+  combined-power : (v : ℕ) → v < stride → combinedValue n qual (commitmentIn (powersAt n list (u - 1))) 1 v ≡ combinedValue n qual (commitmentIn list) u v
   unfolding combinedValue exponent
   combined-power v h =
       productOver-cong n qual qual _ _ (λ i p l. refl)
       (λ i p l e. ap (powered (commitmentIn (powersAt n list (u - 1)) i v)) (exponent-first i) ∙ power-at n list i v p l h (u - 1))
 
-  pub combined-powers : (m : ℕ) {k : ℕ} {powers values : List Element} → m ≤ 32 → k ≡ u - 1 → powers ≡ powersAt n list k
+  pub combined-powers : (m : ℕ) {k : ℕ} {powers values : List Element} → m ≤ stride → k ≡ u - 1 → powers ≡ powersAt n list k
       → values ≡ elements m (combinedValue n qual (commitmentIn powers) 1)
       → values ≡ elements m (combinedValue n qual (commitmentIn list) u)
   unfolding elements

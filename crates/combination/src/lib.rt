@@ -7,7 +7,11 @@ ghost use Rattle.arrays.specs.Arrays.{commitmentIn, elements};
 ghost use Rattle.combination.specs.Combination.{combinedValue, raised, powersAt};
 use field::Element;
 use field::Scalar;
+use interpolation::ROW;
 use interpolation::Row;
+use records::MOST_PARTIES;
+use records::PLACES;
+use records::STRIDE;
 
 // i^(u-1) as a scalar, i being the dealer's number.
 pub fn coefficient(i: u8, u: u8) -> Scalar
@@ -17,20 +21,24 @@ pub fn coefficient(i: u8, u: u8) -> Scalar
 }
 
 // The committed values of n dealers, each to the power of its dealer's number: from V^(i^(u-1)) to V^(i^u).
-pub fn raised(list: [Element; 1024], n: u8) -> [Element; 1024]
+pub fn raised(list: [Element; PLACES], n: u8) -> [Element; PLACES]
     ensures { λ r. ⌜ r ≡ raised n list ⌝ }
 {
-    let count = if n < 32 { n as usize * 32 } else { 1024 };
+    let count = if n < MOST_PARTIES {
+        n as usize * STRIDE
+    } else {
+        PLACES
+    };
     let mut next = list;
     for at in 0..count {
-        let i = (at / 32 + 1) as u32;
+        let i = (at / STRIDE + 1) as u32;
         next[at] = list[at].power(i);
     }
     next
 }
 
 // The committed values to the power of i^(u-1), i being the dealer's number.
-pub fn powers_at(list: [Element; 1024], n: u8, u: u8) -> [Element; 1024]
+pub fn powers_at(list: [Element; PLACES], n: u8, u: u8) -> [Element; PLACES]
     ensures { λ r. ⌜ r ≡ powersAt n list (u - 1) ⌝ }
 {
     let mut powers = list;
@@ -42,17 +50,21 @@ pub fn powers_at(list: [Element; 1024], n: u8, u: u8) -> [Element; 1024]
 }
 
 // The values of the dealers of a set, combined for the u whose powers these are: one product over the set for each v.
-pub fn combined_values(powers: [Element; 1024], qual: u64, n: u8, quorum: u8) -> [Element; 64]
+pub fn combined_values(powers: [Element; PLACES], qual: u64, n: u8, quorum: u8) -> [Element; ROW]
     ensures { λ r. ⌜ r ≡ elements quorum (combinedValue n (has qual) (commitmentIn powers) 1) ⌝ }
 {
     let m = arrays::capped(quorum as usize);
-    let mut values = [Element::ONE; 64];
+    let mut values = [Element::ONE; ROW];
     for v in 0..m {
         let mut product = Element::ONE;
         for i in 0..n {
             if sets::has(qual, i + 1) {
-                let at = i as usize * 32 + v;
-                let value = if at < 1024 { powers[at] } else { Element::ONE };
+                let at = i as usize * STRIDE + v;
+                let value = if at < PLACES {
+                    powers[at]
+                } else {
+                    Element::ONE
+                };
                 product = product.mul(value);
             }
         }

@@ -15,6 +15,7 @@ use Rattle.algebra.specs.Fold.{fold, fold-cong, fold-keeps}
 use Rattle.lists.specs.Tests.{pick-case}
 use Rattle.sets.specs.Masks.{has, insert}
 use Rattle.sets.specs.MaskLaws.{has-none, has-zero, has-or, has-insert}
+use Rattle.records.specs.Parameters.{mostParties}
 use Rattle.records.specs.Bytes.{numberAt, sender}
 use Rattle.complaint.specs.declared.Complaints.{Complaints}
 use Rattle.complaint.specs.Definitions.{noComplaints, withComplaint, maskBy, blamedBy}
@@ -65,7 +66,7 @@ unfolding maskBy
 mask-past c j l = rw (List·getD-eq-default (c .masks) 0 {n = j - 1} (omega arith)) (pick-case (λ x. x ≡ 0) (has (c .holders) j) 0 0 (λ e. refl) (λ e. refl))
 
 -- a row of a holder that has none yet
-module _ (c : Complaints) (s : List ℕ) (size : length (c .masks) ≡ 32) (p : 0 < sender s) (few : sender s ≤ 32) where
+module _ (c : Complaints) (s : List ℕ) (size : length (c .masks) ≡ mostParties) (p : 0 < sender s) (few : sender s ≤ mostParties) where
   held-more : (j : ℕ) → has (insert (c .holders) (sender s)) j ≡ (has (c .holders) j || eqb j (sender s))
   held-more j = has-insert (c .holders) (sender s) j p (omega arith)
 
@@ -88,7 +89,7 @@ unfolding blamedBy
 blamed-none n i = ap (λ (x : ℕ). has x i) (fold-keeps bitOr 0 (λ x. x ≡ 0) refl (λ a b p q. rw (p, q)) n (λ j l. mask-none (j + 1))) ∙ has-zero i
 
 -- one more row blames whom its mask has
-pub blamed-more : (n : ℕ) (c : Complaints) (s : List ℕ) → length (c .masks) ≡ 32 → n ≤ 32 → 0 < sender s → sender s ≤ n → has (c .holders) (sender s) ≡ false
+pub blamed-more : (n : ℕ) (c : Complaints) (s : List ℕ) → length (c .masks) ≡ mostParties → n ≤ mostParties → 0 < sender s → sender s ≤ n → has (c .holders) (sender s) ≡ false
     → (i : ℕ) → has (blamedBy n (withComplaint c s)) i ≡ (has (blamedBy n c) i || has (numberAt s 4) i)
 unfolding blamedBy
 blamed-more n c s size few p l new i =

@@ -9,6 +9,7 @@ use Rattle.algebra.specs.Fold.{fold}
 use Rattle.lists.specs.Tests.{pick, allTo, require, orNext}
 use Rattle.lists.specs.Stores.{filled}
 use Rattle.sets.specs.Masks.{has, insert, minus, count}
+use Rattle.records.specs.Parameters.{mostParties}
 use Rattle.records.specs.Bytes.{numberAt, sender}
 use Rattle.refusals.specs.Refusals.{complaintRefusal}
 use Rattle.dealing.specs.declared.Setup.{Setup}
@@ -17,7 +18,7 @@ use Rattle.dealing.specs.Definitions.{mayBlame}
 use Rattle.complaint.specs.declared.Complaints.{Complaints}
 
 unfoldable pub noComplaints : Complaints
-noComplaints = record { count = 0; holders = 0; masks = filled 32 0 }
+noComplaints = record { count = 0; holders = 0; masks = filled mostParties 0 }
 
 -- the refusal of a VE at stage 2: 12, then 13, after those from the input
 unfoldable pub complaintNumber : Setup → Dealings → Complaints → List ℕ → ℕ

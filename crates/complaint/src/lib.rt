@@ -8,12 +8,14 @@ ghost use Rattle.dealing.specs.Definitions.{mayBlame};
 ghost use Rattle.complaint.specs.Definitions.{maskBy, blamedBy, unblamed, complaintNumber, withComplaint, complaintStage};
 use dealing::Dealings;
 use dealing::Setup;
+use records::MOST_PARTIES;
+use records::PARTIES;
 
-// The accepted complaint rows. Holder j's mask stands at j - 1.
+// The accepted complaint rows (verdicts, in document 01). Holder j's mask stands at j - 1.
 pub struct Complaints {
     pub count: u8,
     pub holders: u64,
-    pub masks: [u64; 32],
+    pub masks: [u64; PARTIES],
 }
 
 // Whether each dealer that a mask blames has a dealing whose share for j is not valid.
@@ -38,7 +40,7 @@ impl Complaints {
         if j < 1 {
             return 0;
         }
-        if 32 < j {
+        if MOST_PARTIES < j {
             return 0;
         }
         if !sets::has(self.holders, j) {
@@ -91,10 +93,9 @@ impl Complaints {
     {
         let rows = self.count + 1;
         let j = records::byte(bytes, 2);
-        let before = if 0 < j { j - 1 } else { 0 };
-        let at = before as usize;
+        let at = arrays::predecessor(j) as usize;
         let mut masks = self.masks;
-        if at < 32 {
+        if at < PARTIES {
             masks[at] = records::number(bytes, 4) as u64;
         }
         Complaints {

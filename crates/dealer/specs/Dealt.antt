@@ -9,7 +9,7 @@ use Rattle.field.specs.declared.Scalar.{Scalar}
 use Rattle.field.specs.Definitions.{scalar, isScalar}
 use Rattle.interpolation.specs.Definitions.{party, committedPoint, scalarAt}
 use Rattle.records.specs.Parameters.{inBounds, quorum, isParty}
-use Rattle.records.specs.Tags.{setupLength, dealingLength}
+use Rattle.records.specs.Tags.{letterD, letterE, letterS, letterU, setupLength, dealingLength}
 use Rattle.encoding.specs.Bytes.{four, fours, powerOfFour}
 
 -- ---- SU, from n, t, a, s and F(1) to F(t)
@@ -23,7 +23,7 @@ setupRefused n t a s shares room =
 
 unfoldable pub setupBytes : ℕ → ℕ → ℕ → ℕ → List ℕ → List ℕ
 setupBytes n t a s shares =
-    83 ∷ 85 ∷ n ∷ t ∷ a ∷ 0 ∷ (four (powerOfFour s) ++ fours t (λ j. powerOfFour (getD shares j 0)))
+    letterS ∷ letterU ∷ n ∷ t ∷ a ∷ 0 ∷ (four (powerOfFour s) ++ fours t (λ j. powerOfFour (getD shares j 0)))
 
 -- ---- DE, from n, t, a, i and the values of H_i at its committed points
 
@@ -41,5 +41,5 @@ shareFor t a values j = scalarAt (committedPoint a) (quorum t a) (λ v. scalar (
 
 unfoldable pub dealingBytes : ℕ → ℕ → ℕ → ℕ → List ℕ → List ℕ
 dealingBytes n t a i values =
-    68 ∷ 69 ∷ i ∷ 0
+    letterD ∷ letterE ∷ i ∷ 0
     ∷ (fours (quorum t a) (λ v. powerOfFour (getD values v 0)) ++ fours n (λ j. shareFor t a values (j + 1) .0))

@@ -13,7 +13,7 @@ use Rattle.interpolation.specs.Rows.{elementAt-cong}
 use Rattle.interpolation.specs.Laws.{scalarAt-range, raise-scalarAt}
 use Rattle.records.specs.Parameters.{quorum}
 use Rattle.records.specs.Bytes.{byteAt, numberAt, word}
-use Rattle.records.specs.Tags.{setupLength, dealingLength, sharesFrom}
+use Rattle.records.specs.Tags.{letterD, letterE, letterS, letterU, setupLength, dealingLength, sharesFrom}
 use Rattle.refusals.specs.Refusals.{setupRefusal, dealingRefusal}
 use Rattle.refusals.specs.RefusalLaws.{setup-passes, dealing-passes}
 use Rattle.encoding.specs.Bytes.{four, fours, powerOfFour}
@@ -27,13 +27,13 @@ use Rattle.dealer.specs.Fits.{setup-fits, dealing-fits}
 module _ (n t a s : ℕ) (shares : List ℕ) where
   setup-first : word (setupBytes n t a s shares) 6 0 ≡ powerOfFour s
   unfolding setupBytes word
-  setup-first = number-at (83 ∷ 85 ∷ n ∷ t ∷ a ∷ 0 ∷ []) (powerOfFour s) (fours t (λ j. powerOfFour (getD shares j 0))) (power-lt s)
+  setup-first = number-at (letterS ∷ letterU ∷ n ∷ t ∷ a ∷ 0 ∷ []) (powerOfFour s) (fours t (λ j. powerOfFour (getD shares j 0))) (power-lt s)
 
   setup-next : (j : ℕ) → j < t → word (setupBytes n t a s shares) 6 (suc j) ≡ powerOfFour (getD shares j 0)
   unfolding setupBytes word
   setup-next j l =
       ap (numberAt (setupBytes n t a s shares)) (omega arith)
-      ∙ word-last (83 ∷ 85 ∷ n ∷ t ∷ a ∷ 0 ∷ four (powerOfFour s)) t (λ k. powerOfFour (getD shares k 0)) j l (power-lt (getD shares j 0))
+      ∙ word-last (letterS ∷ letterU ∷ n ∷ t ∷ a ∷ 0 ∷ four (powerOfFour s)) t (λ k. powerOfFour (getD shares k 0)) j l (power-lt (getD shares j 0))
 
   setup-element : (j : ℕ) → j ≤ t → isElement (word (setupBytes n t a s shares) 6 j) ≡ true
   setup-element zero l = rw setup-first (power-element s)
@@ -67,15 +67,15 @@ module _ (n t a i : ℕ) (values : List ℕ) where
   dealing-commitment : (v : ℕ) → v < quorum t a → word (dealingBytes n t a i values) 4 v ≡ powerOfFour (getD values v 0)
   unfolding dealingBytes
   dealing-commitment v l =
-      word-fours (68 ∷ 69 ∷ i ∷ 0 ∷ []) (quorum t a) (λ k. powerOfFour (getD values k 0)) (fours n (λ j. shareFor t a values (j + 1) .0)) v l (power-lt (getD values v 0))
+      word-fours (letterD ∷ letterE ∷ i ∷ 0 ∷ []) (quorum t a) (λ k. powerOfFour (getD values k 0)) (fours n (λ j. shareFor t a values (j + 1) .0)) v l (power-lt (getD values v 0))
 
   dealing-share : (j : ℕ) → j < n → word (dealingBytes n t a i values) (sharesFrom t a) j ≡ shareFor t a values (j + 1) .0
   unfolding dealingBytes sharesFrom
   dealing-share j l =
       let committed = fours (quorum t a) (λ k. powerOfFour (getD values k 0)) in
-      let at : 4 + 4 * quorum t a ≡ length (68 ∷ 69 ∷ i ∷ 0 ∷ committed) = omega (arith, length-fours (quorum t a) (λ k. powerOfFour (getD values k 0))) in
+      let at : 4 + 4 * quorum t a ≡ length (letterD ∷ letterE ∷ i ∷ 0 ∷ committed) = omega (arith, length-fours (quorum t a) (λ k. powerOfFour (getD values k 0))) in
       ap (λ (p : ℕ). word (dealingBytes n t a i values) p j) at
-      ∙ word-last (68 ∷ 69 ∷ i ∷ 0 ∷ committed) n (λ k. shareFor t a values (k + 1) .0) j l (scalar-word _ (share-range t a values (j + 1)))
+      ∙ word-last (letterD ∷ letterE ∷ i ∷ 0 ∷ committed) n (λ k. shareFor t a values (k + 1) .0) j l (scalar-word _ (share-range t a values (j + 1)))
 
   dealing-length : length (dealingBytes n t a i values) ≡ dealingLength n t a
   unfolding dealingBytes dealingLength

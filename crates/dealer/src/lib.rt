@@ -13,6 +13,7 @@ ghost use Rattle.arrays.specs.Arrays.{scalars};
 ghost use Rattle.dealer.specs.Dealt.{setupRefused, setupBytes, dealingRefused, shareFor, dealingBytes};
 use field::Element;
 use field::Scalar;
+use interpolation::ROW;
 
 // Whether every number of a list is a scalar.
 fn all_scalars(list: &[u32]) -> bool
@@ -28,12 +29,12 @@ fn all_scalars(list: &[u32]) -> bool
 }
 
 // The numbers of a list as scalars.
-fn load_scalars(list: &[u32]) -> [Scalar; 64]
+fn load_scalars(list: &[u32]) -> [Scalar; ROW]
     requires { ⌜ length (now list) ≤ 64 ⌝ }
     ensures { λ r. ⌜ r ≡ scalars (length (now (list .entry))) (λ i. scalar (getD (now (list .entry)) i 0)) ⌝ }
 {
     let count = list.len();
-    let mut values = [Scalar::ZERO; 64];
+    let mut values = [Scalar::ZERO; ROW];
     for i in 0..count {
         values[i] = Scalar(list[i]);
     }

@@ -8,7 +8,7 @@ use Rattle.lists.specs.Stores.{stored, filled}
 use Rattle.sets.specs.Masks.{has, insert, maskOf}
 use Rattle.field.specs.declared.Element.{Element}
 use Rattle.field.specs.Definitions.{scalar, element, identity}
-use Rattle.records.specs.Parameters.{quorum}
+use Rattle.records.specs.Parameters.{mostParties, places, quorum}
 use Rattle.records.specs.Bytes.{byteAt, word, sender}
 use Rattle.records.specs.Tags.{sharesFrom}
 use Rattle.refusals.specs.Refusals.{dealingRefusal}
@@ -20,7 +20,7 @@ use Rattle.dealing.specs.declared.Dealings.{Dealings}
 -- ---- the setup
 
 unfoldable pub noSetup : Setup
-noSetup = record { n = 0; t = 0; a = 0; key = filled 32 identity }
+noSetup = record { n = 0; t = 0; a = 0; key = filled mostParties identity }
 
 -- the setup of an accepted SU
 unfoldable pub setupOf : List ℕ → Setup
@@ -39,7 +39,7 @@ keyIn setup j = getD (setup .key) j identity
 -- ---- the dealings
 
 unfoldable pub noDealings : Dealings
-noDealings = record { count = 0; dealers = 0; commitments = filled 1024 identity; wrong = filled 32 0 }
+noDealings = record { count = 0; dealers = 0; commitments = filled places identity; wrong = filled mostParties 0 }
 
 -- the refusal of a DE at stage 1: 12, after those from the input
 unfoldable pub dealingNumber : Setup → Dealings → List ℕ → ℕ

@@ -4,51 +4,62 @@ ghost use mathlib.Core.Bool.{true};
 ghost use Prim.Native.Nat.{_+_, _≤_};
 ghost use Rattle.lists.specs.Stores.{stored, filled};
 ghost use Rattle.field.specs.Definitions.{element, identity};
-ghost use Rattle.records.specs.Parameters.{inBounds};
+ghost use Rattle.records.specs.Parameters.{mostParties, inBounds};
 ghost use Rattle.records.specs.Bytes.{word, sender};
 ghost use Rattle.protocol.specs.Transcript.{keyAt};
 ghost use Rattle.arrays.specs.Arrays.{elements};
 ghost use Rattle.dealing.specs.Definitions.{setupOf, keyIn, dealingNumber, wrongShares, withDealing, mayBlame};
 use field::Element;
 use field::Scalar;
+use interpolation::ROW;
+use records::MOST_PARTIES;
+use records::PARTIES;
+use records::PLACES;
+use records::STRIDE;
 
 // The accepted setup: the parameters, and S, S_1 to S_t.
 pub struct Setup {
     pub n: u8,
     pub t: u8,
     pub a: u8,
-    pub key: [Element; 32],
+    pub key: [Element; PARTIES],
 }
 
-// The accepted dealings. Dealer i's committed values stand from (i - 1) × 32, and the holders whose share from i is not valid at i - 1.
+// The accepted dealings. Dealer i's committed values stand from (i - 1) × STRIDE, and the holders whose share from i is not valid at i - 1.
 pub struct Dealings {
     pub count: u8,
     pub dealers: u64,
-    pub commitments: [Element; 1024],
-    pub wrong: [u64; 32],
+    pub commitments: [Element; PLACES],
+    pub wrong: [u64; PARTIES],
 }
 
 // S and S_1 on from a setup.
-fn load_key(bytes: &[u8], count: u16) -> [Element; 32]
-    ensures { λ r. ⌜ r ≡ stored (filled 32 identity) 0 count (λ j. element (word (now (bytes .entry)) 6 j)) ⌝ }
+fn load_key(bytes: &[u8], count: u16) -> [Element; PARTIES]
+    ensures { λ r. ⌜ r ≡ stored (filled mostParties identity) 0 count (λ j. element (word (now (bytes .entry)) 6 j)) ⌝ }
 {
-    let mut list = [Element::ONE; 32];
+    let mut list = [Element::ONE; PARTIES];
     for j in 0..count {
-        if j < 32 {
-            list[j as usize] = Element(records::word(bytes, 6, j));
+        let at = j as usize;
+        if at < PARTIES {
+            list[at] = Element(records::word(bytes, 6, j));
         }
     }
     list
 }
 
 // The list with a dealing's committed values from a place on.
-fn load_commitments(list: [Element; 1024], base: u16, bytes: &[u8], count: u16) -> [Element; 1024]
+fn load_commitments(
+    list: [Element; PLACES],
+    base: u16,
+    bytes: &[u8],
+    count: u16,
+) -> [Element; PLACES]
     ensures { λ r. ⌜ r ≡ stored list base count (λ v. element (word (now (bytes .entry)) 4 v)) ⌝ }
 {
     let mut next = list;
     for v in 0..count {
         let at = base as usize + v as usize;
-        if at < 1024 {
+        if at < PLACES {
             next[at] = Element(records::word(bytes, 4, v));
         }
     }
@@ -56,13 +67,14 @@ fn load_commitments(list: [Element; 1024], base: u16, bytes: &[u8], count: u16) 
 }
 
 // A dealing's committed values by themselves.
-fn load_values(bytes: &[u8], count: u16) -> [Element; 64]
+fn load_values(bytes: &[u8], count: u16) -> [Element; ROW]
     ensures { λ r. ⌜ r ≡ elements count (λ v. element (word (now (bytes .entry)) 4 v)) ⌝ }
 {
-    let mut list = [Element::ONE; 64];
+    let mut list = [Element::ONE; ROW];
     for v in 0..count {
-        if v < 64 {
-            list[v as usize] = Element(records::word(bytes, 4, v));
+        let at = v as usize;
+        if at < ROW {
+            list[at] = Element(records::word(bytes, 4, v));
         }
     }
     list
@@ -125,7 +137,7 @@ impl Dealings {
         if i < 1 {
             return false;
         }
-        if 32 < i {
+        if MOST_PARTIES < i {
             return false;
         }
         if !sets::has(self.dealers, i) {
@@ -143,17 +155,17 @@ impl Dealings {
     {
         let count = self.count + 1;
         let i = records::byte(bytes, 2);
-        let before = if 0 < i { i - 1 } else { 0 };
+        let before = arrays::predecessor(i);
         let list = self.commitments;
         let commitments = load_commitments(
             list,
-            before as u16 * 32,
+            before as u16 * STRIDE as u16,
             bytes,
             records::quorum(setup.t, setup.a),
         );
         let mut wrong = self.wrong;
         let at = before as usize;
-        if at < 32 {
+        if at < PARTIES {
             wrong[at] = wrong_shares(setup, bytes);
         }
         Dealings {

@@ -33,6 +33,8 @@ impl Scalar {
     // q, a prime
     pub const MODULUS: u32 = 500000003;
 
+    const WIDE: u64 = Scalar::MODULUS as u64;
+
     pub const ZERO: Scalar = Scalar(0);
 
     pub const ONE: Scalar = Scalar(1);
@@ -55,7 +57,7 @@ impl Scalar {
         ensures { λ r. ⌜ r ≡ plus self other ⌝ }
     {
         let sum = self.0 as u64 + other.0 as u64;
-        Scalar((sum % 500000003) as u32)
+        Scalar((sum % Scalar::WIDE) as u32)
     }
 
     pub fn sub(self, other: Scalar) -> Scalar
@@ -63,14 +65,14 @@ impl Scalar {
     {
         let lack = Scalar::MODULUS - other.0 % Scalar::MODULUS;
         let total = self.0 as u64 + lack as u64;
-        Scalar((total % 500000003) as u32)
+        Scalar((total % Scalar::WIDE) as u32)
     }
 
     pub fn mul(self, other: Scalar) -> Scalar
         ensures { λ r. ⌜ r ≡ times self other ⌝ }
     {
         let whole = self.0 as u64 * other.0 as u64;
-        Scalar((whole % 500000003) as u32)
+        Scalar((whole % Scalar::WIDE) as u32)
     }
 
     // The scalar whose product with this one is 1, and 0 for 0. With q = c x + r, the inverse of x is -c times that of r.
@@ -98,6 +100,8 @@ impl Scalar {
 impl Element {
     // P = 2 q + 1
     pub const MODULUS: u32 = 1000000007;
+
+    const WIDE: u64 = Element::MODULUS as u64;
 
     pub const ONE: Element = Element(1);
 
@@ -127,7 +131,7 @@ impl Element {
         ensures { λ r. ⌜ r ≡ product self other ⌝ }
     {
         let full = self.0 as u64 * other.0 as u64;
-        Element((full % 1000000007) as u32)
+        Element((full % Element::WIDE) as u32)
     }
 
     // This element to the power of a whole number.

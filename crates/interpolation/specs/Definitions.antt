@@ -16,7 +16,7 @@ point x y = minus (reduced x) (reduced y)
 unfoldable pub party : ℕ → Scalar
 party j = point j 0
 
--- packed place k, the point 1 - k
+-- slot k (packed place, in document 01), the point 1 - k
 unfoldable pub slot : ℕ → Scalar
 slot k = point 1 k
 

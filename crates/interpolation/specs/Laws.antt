@@ -152,10 +152,6 @@ module _ (pt : ℕ → Scalar) (m : ℕ) (g : ℕ → Element) (elements : (i : 
       (λ v. Powers .pow (member (g v)) (A.weight Zq inv (residues pt) m v (residue x)))
       ∙ fold-cong product identity m (λ i l. ap₂ raise (member-val (g i) (elements i l)) (weight-val pt m i x))
 
-  -- what elements interpolate to is an element
-  pub elementAt-element : (x : Scalar) → IsElement (elementAt pt m g x)
-  elementAt-element x = subst IsElement (elementAt-val x) (interp Powers inv (residues pt) m (λ v. member (g v)) (residue x) .1)
-
   -- at a point of its own, the element there
   pub elementAt-point : DistinctPoints m pt → (j : ℕ) → j < m → elementAt pt m g (pt j) ≡ g j
   elementAt-point d j l =

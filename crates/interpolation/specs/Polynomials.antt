@@ -4,7 +4,7 @@ use mathlib.Core.List.{List, [], _∷_, map}
 use Prim.Native.Nat.{ℕ, _≤_}
 use native.Mathlib.Omega.{arith}
 use lib.ListN.{length, length-map}
-use Rattle.algebra.specs.Poly.{ev, Poly, poly-le, poly-const, poly-list}
+use Rattle.algebra.specs.Poly.{ev, Poly, poly-const, poly-list}
 use Rattle.algebra.specs.Weights as A
 use Rattle.field.specs.declared.Scalar.{Scalar}
 use Rattle.field.specs.Definitions.{IsScalar, plus, times}
@@ -18,9 +18,6 @@ pub record Polynomial (n : ℕ) (f : Scalar → Scalar) : Type 0 where
   pub lift : Residue → Residue
   pub poly : Poly Zq n lift
   pub agrees : (x : Scalar) → lift (residue x) .0 ≡ f x
-
-pub polynomial-wider : {n m : ℕ} {f : Scalar → Scalar} → n ≤ m → Polynomial n f → Polynomial m f
-polynomial-wider l p = record { lift = p .lift; poly = poly-le Zq l (p .poly); agrees = p .agrees }
 
 pub polynomial-constant : (c : Scalar) → IsScalar c → Polynomial 1 (λ x. c)
 polynomial-constant c h = record { lift = λ x. (c, h); poly = poly-const Zq (c, h); agrees = λ x. refl }

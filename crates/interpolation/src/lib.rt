@@ -7,9 +7,14 @@ ghost use Rattle.interpolation.specs.Bases.{partialProducts, reversed};
 use field::Element;
 use field::Scalar;
 
+// The most scalars of a row, and its places.
+pub const MOST_SCALARS: u8 = 64;
+
+pub const ROW: usize = MOST_SCALARS as usize;
+
 // A list of at most 64 scalars, points or weights, with its count. A count above 64 counts as 64.
 pub struct Row {
-    pub at: [Scalar; 64],
+    pub at: [Scalar; ROW],
     pub count: u8,
 }
 
@@ -30,20 +35,28 @@ pub fn point(x: u8, y: u8) -> Scalar
 pub fn committed_points(a: u8, count: u8) -> Row
     ensures { λ r. ⌜ r ≡ listed count (committedPoint a) ⌝ }
 {
-    let m = if count < 64 { count } else { 64 };
-    let mut at = [Scalar::ZERO; 64];
+    let m = if count < MOST_SCALARS {
+        count
+    } else {
+        MOST_SCALARS
+    };
+    let mut at = [Scalar::ZERO; ROW];
     for v in 0..m {
         at[v as usize] = point(v + 1, a);
     }
     Row { at: at, count: m }
 }
 
-// The packed slots 1 to count: the points 0, -1, ...
+// The slots (packed places) 1 to count: the points 0, -1, ...
 pub fn slot_points(count: u8) -> Row
     ensures { λ r. ⌜ r ≡ listed count (λ v. slot (v + 1)) ⌝ }
 {
-    let m = if count < 64 { count } else { 64 };
-    let mut at = [Scalar::ZERO; 64];
+    let m = if count < MOST_SCALARS {
+        count
+    } else {
+        MOST_SCALARS
+    };
+    let mut at = [Scalar::ZERO; ROW];
     for v in 0..m {
         at[v as usize] = point(1, v + 1);
     }
@@ -55,14 +68,18 @@ impl Row {
     pub fn len(self) -> u8
         ensures { λ r. ⌜ r ≡ size self ⌝ }
     {
-        if self.count < 64 { self.count } else { 64 }
+        if self.count < MOST_SCALARS {
+            self.count
+        } else {
+            MOST_SCALARS
+        }
     }
 
     // Scalar i, and 0 past the array's end.
     fn item(self, i: u8) -> Scalar
         ensures { λ r. ⌜ r ≡ nth self i ⌝ }
     {
-        if i < 64 {
+        if i < MOST_SCALARS {
             self.at[i as usize]
         } else {
             Scalar::ZERO
@@ -90,7 +107,7 @@ impl Row {
         ensures { λ r. ⌜ r ≡ basisOf self ⌝ }
     {
         let m = self.len();
-        let mut scales = [Scalar::ZERO; 64];
+        let mut scales = [Scalar::ZERO; ROW];
         for i in 0..m {
             scales[i as usize] = self.scale(i);
         }
@@ -108,7 +125,7 @@ impl Row {
         ensures { λ r. ⌜ r ≡ partialProducts self x ⌝ }
     {
         let m = self.len();
-        let mut products = [Scalar::ZERO; 64];
+        let mut products = [Scalar::ZERO; ROW];
         let mut product = Scalar::ONE;
         for i in 0..m {
             products[i as usize] = product;
@@ -126,7 +143,7 @@ impl Row {
         ensures { λ r. ⌜ r ≡ reversed self ⌝ }
     {
         let m = self.len();
-        let mut at = [Scalar::ZERO; 64];
+        let mut at = [Scalar::ZERO; ROW];
         for i in 0..m {
             let from = m - 1 - i;
             at[i as usize] = self.at[from as usize];
@@ -142,7 +159,7 @@ impl Row {
     }
 
     // The sum of weight × value, of these weights.
-    pub fn sum(self, values: [Scalar; 64]) -> Scalar
+    pub fn sum(self, values: [Scalar; ROW]) -> Scalar
         ensures { λ r. ⌜ r ≡ sumOf self values ⌝ }
     {
         let m = self.len();
@@ -156,7 +173,7 @@ impl Row {
     }
 
     // The product of value^weight, of these weights.
-    pub fn product(self, values: [Element; 64]) -> Element
+    pub fn product(self, values: [Element; ROW]) -> Element
         ensures { λ r. ⌜ r ≡ productOf self values ⌝ }
     {
         let m = self.len();
@@ -180,7 +197,7 @@ impl Basis {
         let m = points.len();
         let prefix = points.partial_products(x);
         let suffix = points.reversed().partial_products(x);
-        let mut weights = [Scalar::ZERO; 64];
+        let mut weights = [Scalar::ZERO; ROW];
         for i in 0..m {
             let k = m - 1 - i;
             let others = prefix.at[i as usize].mul(suffix.at[k as usize]);

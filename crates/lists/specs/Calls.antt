@@ -31,10 +31,18 @@ is-not {r} {y} {k} e h = ne-eqb y k (λ p. h (e ∙ p))
 
 -- ---- refusals in a row: the code asks first whether the record itself is refused, by k
 
+abbrev pub Beyond : {r : ℕ} (k next : ℕ) → r ≡ orNext k next → Type 0
+Beyond {r} k next e = r ≡ next
+
 module _ {n k : ℕ} (first : n ≡ k) where
   pub itself : (next : ℕ) → (n ≡ 0 → ⊥) → n ≡ orNext k next
   unfolding orNext
   itself next h = first ∙ rw (is-not first h)
+
+  -- it is not: what is left of the refusal r
+  pub beyond : {r : ℕ} (next : ℕ) (e : r ≡ orNext k next) → n ≡ 0 → Beyond k next e
+  unfolding orNext
+  beyond next e none = e ∙ rw (is first none)
 
   -- then, by a call, whether its sender has one already
   pub sent : {i j : ℕ} {b : Bool} (f : ℕ → Bool) (number rest : ℕ) → n ≡ 0 → i ≡ j → b ≡ f i → require (not b) number rest ≡ orNext k (require (not (f j)) number rest)

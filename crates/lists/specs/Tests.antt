@@ -120,8 +120,8 @@ Left {r} b k x e = r ≡ x
 pub left : {r : ℕ} (b : Bool) (k x : ℕ) (e : r ≡ require b k x) → b ≡ true → Left b k x e
 left b k x e h = e ∙ require-true b k x h
 
-pub refused : {r : ℕ} (b : Bool) (k x : ℕ) → r ≡ require b k x → b ≡ false → k ≡ r
-refused b k x e h = sym (e ∙ require-false b k x h)
+pub test-number : {r : ℕ} (b : Bool) (k x : ℕ) → r ≡ require b k x → b ≡ false → k ≡ r
+test-number b k x e h = sym (e ∙ require-false b k x h)
 
 -- nothing refused: the test passed, and so did the rest
 pub passed : (b : Bool) (k x : ℕ) → require b k x ≡ 0 → 0 < k → (b ≡ true) × (x ≡ 0)

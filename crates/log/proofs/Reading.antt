@@ -11,9 +11,9 @@ use Rattle.run.specs.Runs.{fresh}
 use Rattle.run.specs.Steps.{stepOf}
 use Rattle.run.specs.KeepsFormed.{Regular, regular-fresh, regular-step}
 use Rattle.log.specs.Cutting.{runOf, recordsOf}
-use Rattle.log.specs.Report.{refusalLines}
+use Rattle.log.specs.Report.{refusalLine, refusalLines}
 use Rattle.log.specs.Lengths.{lines-max}
-use Rattle.log.specs.Turns.{nextLength, nextRecord, linesFrom, runFrom, lineOf, next-pos, next-max, lines-none, lines-next, lines-start, run-none, run-next, run-start}
+use Rattle.log.specs.Turns.{nextLength, nextRecord, linesFrom, runFrom, next-pos, next-max, lines-none, lines-next, lines-start, run-none, run-next, run-start}
 
 pub record Reading (log before after : List ℕ) (r : Run) (from at position : ℕ) : Type 0 where
   pub within : from ≤ length log
@@ -39,7 +39,7 @@ module _ {log before after : List ℕ} {r : Run} {from at position : ℕ} (h : R
   pub reading-next : from < length log → {next : List ℕ} {place : ℕ} →
       let s = drop from log in
       let reply = stepOf r (nextRecord r s) in
-      Wrote after next at place (lineOf position (reply .number))
+      Wrote after next at place (refusalLine position (reply .number))
       → Reading log before next (reply .run) (from + nextLength r s) place (position + 1)
   reading-next l {next} {place} w =
       let s = drop from log in
@@ -55,7 +55,7 @@ module _ {log before after : List ℕ} {r : Run} {from at position : ℕ} (h : R
             ahead-next
             (subst (λ (t : List ℕ). Ahead before after at (linesFrom 1 fresh log) t)
             (lines-next position r s some
-            ∙ ap (λ (d : List ℕ). lineOf position (reply .number) ++ linesFrom (position + 1) (reply .run) d) (drop-drop n from log))
+            ∙ ap (λ (d : List ℕ). refusalLine position (reply .number) ++ linesFrom (position + 1) (reply .run) d) (drop-drop n from log))
             (h .lines))
             w;
         same-run = ap (runFrom (reply .run)) (sym (drop-drop n from log)) ∙ sym (run-next r s some) ∙ h .same-run;

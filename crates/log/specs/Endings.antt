@@ -15,7 +15,7 @@ use borrow.Author.Tests.{eqb-true, eqb-false, le-leb, lt-leb, lt-ltb, ne-eqb}
 use Rattle.lists.specs.Tests.{pick, pick-case, require-false, orNext}
 use Rattle.records.specs.Bytes.{byteAt}
 use Rattle.records.specs.Tags.{Tag, SU, DE, VE, CH, RE, unknown, code, tagOf, setupLength, dealingLength, complaintLength, challengesLength, responseLength}
-use Rattle.refusals.specs.Refusals.{setupRefusal, dealingRefusal, complaintRefusal, challengesRefusal, responseRefusal}
+use Rattle.refusals.specs.Refusals.{setupRefusal, headRefusal, dealingRefusal, complaintRefusal, challengesRefusal, responseRefusal}
 use Rattle.dealing.specs.Definitions.{dealingNumber}
 use Rattle.complaint.specs.Definitions.{complaintNumber}
 use Rattle.response.specs.Definitions.{responseNumber}
@@ -164,6 +164,10 @@ or-short : (k next : ℕ) → k ≡ 2 → orNext k next ≡ 2
 unfolding orNext
 or-short k next z = rw z
 
+head-short : (n size : ℕ) (s : List ℕ) → length s ≢ size → headRefusal n size s ≡ 2
+unfolding headRefusal
+head-short n size s d = require-false _ 2 _ (ne-eqb _ _ d)
+
 past-none : (b : Bool) {m n : ℕ} → m < pick b 0 n → m ≢ n
 past-none true l e = absurd (omega arith)
 past-none false l e = absurd (omega arith)
@@ -185,10 +189,10 @@ setup-cut s l = require-false _ 2 _ (go (leb 6 (length s)) l)
 cut-number : (k : Tag) (r : Run) (s : List ℕ) → length s < lengthAt k r s → stageOf r ≡ takenAt k → handled (handlerAt k (stageOf r)) r s ≡ refused r 2
 unfolding handlerAt handled lengthAt dealingNumber dealingRefusal complaintNumber complaintRefusal challengesRefusal responseNumber responseRefusal
 cut-number SU r s l e = found-short SU TakeSetup r s _ _ e refl (setup-cut s l)
-cut-number DE r s l e = found-short DE TakeDealing r s _ _ e refl (or-short _ _ (require-false _ 2 _ (ne-eqb _ _ (past-none (eqb (r .stage) 0) l))))
-cut-number VE r s l e = found-short VE TakeComplaint r s _ _ e refl (or-short _ _ (require-false _ 2 _ (ne-eqb _ _ (past-none (eqb (r .stage) 0) l))))
+cut-number DE r s l e = found-short DE TakeDealing r s _ _ e refl (or-short _ _ (or-short _ _ (head-short _ _ s (past-none (eqb (r .stage) 0) l))))
+cut-number VE r s l e = found-short VE TakeComplaint r s _ _ e refl (or-short _ _ (or-short _ _ (head-short _ _ s (past-none (eqb (r .stage) 0) l))))
 cut-number CH r s l e = found-short CH TakeChallenges r s _ _ e refl (require-false _ 2 _ (ne-eqb _ _ (past-none (eqb (r .stage) 0) l)))
-cut-number RE r s l e = found-short RE TakeResponse r s _ _ e refl (or-short _ _ (require-false _ 2 _ (ne-eqb _ _ (past-none (eqb (r .stage) 0) l))))
+cut-number RE r s l e = found-short RE TakeResponse r s _ _ e refl (or-short _ _ (or-short _ _ (head-short _ _ s (past-none (eqb (r .stage) 0) l))))
 cut-number unknown r s l e = absurd (omega arith)
 
 -- the rest is one record: 11 where the stage does not take its tag, else 2

@@ -20,8 +20,8 @@ use Rattle.run.specs.declared.Run.{Run}
 use Rattle.run.specs.Steps.{stepOf}
 use Rattle.run.specs.KeepsFormed.{Regular, regular-step}
 use Rattle.log.specs.Cutting.{lengthAt, lengthOf, whole}
-use Rattle.log.specs.Report.{refuseWord}
-use Rattle.log.specs.Turns.{nextLength, nextRecord, nextRest, linesFrom, lineOf, whole-pos, next-pos, next-max, lines-none, lines-next}
+use Rattle.log.specs.Report.{refuseWord, refusalLine}
+use Rattle.log.specs.Turns.{nextLength, nextRecord, nextRest, linesFrom, whole-pos, next-pos, next-max, lines-none, lines-next}
 
 -- ---- a whole record has at least 8 bytes
 
@@ -51,8 +51,8 @@ next-least r s h = go (whole r s) refl
 
 -- ---- the refusal lines
 
-pub line-most : (position number : ℕ) → length (lineOf position number) ≤ 32
-unfolding lineOf
+pub line-most : (position number : ℕ) → length (refusalLine position number) ≤ 32
+unfolding refusalLine
 line-most position number =
     pick-case (λ (l : List ℕ). length l ≤ 32) (eqb number 0) [] (line refuseWord (position ∷ number ∷ [])) (λ e. omega arith)
     (λ e. omega (arith, line-max refuseWord (position ∷ number ∷ [])))
@@ -69,7 +69,7 @@ lines-bound zero position r s h l = ⊎-elim (λ e. omega (arith, no-lines posit
 lines-bound (suc f) position r s h l =
     let reply = stepOf r (nextRecord r s) in
     let passed = length-drop (nextLength r s) s in
-    let split = length-append (lineOf position (reply .number)) (linesFrom (position + 1) (reply .run) (nextRest r s)) in
+    let split = length-append (refusalLine position (reply .number)) (linesFrom (position + 1) (reply .run) (nextRest r s)) in
     let first = line-most position (reply .number) in
     ⊎-elim (λ e. omega (arith, no-lines position r s e))
     (λ p. rw (lines-next position r s p)

@@ -16,7 +16,7 @@ use Rattle.run.specs.Steps.{stepOf, after}
 use Rattle.run.specs.KeepsFormed.{Regular, regular-fresh, regular-after}
 use Rattle.closing.specs.Lengths.{closing-max}
 use Rattle.log.specs.Cutting.{recordsOf, runOf}
-use Rattle.log.specs.Report.{longWord, reportOf}
+use Rattle.log.specs.Report.{longWord, longest, reportOf}
 use Rattle.log.specs.Lengths.{empty-or, lines-max}
 use Rattle.log.specs.Turns.{nextLength, nextRecord, nextRest, recordsFrom, next-pos, records-none, records-next, lines-start}
 use Rattle.log.specs.Printed.{mostReport}
@@ -50,6 +50,6 @@ records-joined log = joined-from (length log) fresh log (omega arith)
 pub report-fits : (log : List ℕ) → length (reportOf log) ≤ mostReport
 unfolding reportOf
 report-fits log =
-    pick-case (λ (l : List ℕ). length l ≤ mostReport) (ltb 65536 (length log)) (line longWord []) _ (λ e. omega (arith, line-max longWord []))
+    pick-case (λ (l : List ℕ). length l ≤ mostReport) (ltb longest (length log)) (line longWord []) _ (λ e. omega (arith, line-max longWord []))
     (λ e. rw (lines-start log) (simp length-append
-    (omega (arith, ltb-false 65536 (length log) e, lines-max 1 fresh log regular-fresh, closing-max (runOf log) (run-regular log .parties)))))
+    (omega (arith, ltb-false longest (length log) e, lines-max 1 fresh log regular-fresh, closing-max (runOf log) (run-regular log .parties)))))

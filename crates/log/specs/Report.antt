@@ -18,13 +18,21 @@ refuseWord = 114 ∷ 101 ∷ 102 ∷ 117 ∷ 115 ∷ 101 ∷ []
 abbrev pub longWord : List ℕ
 longWord = 108 ∷ 111 ∷ 110 ∷ 103 ∷ []
 
--- for each refused record its position, counted from 1, and its number
+-- the bytes of the longest log that is read
+abbrev pub longest : ℕ
+longest = 65536
+
+-- the line of a record, if it is refused: its position (place, in document 01), counted from 1, and its number
+unfoldable pub refusalLine : ℕ → ℕ → List ℕ
+refusalLine position number = pick (eqb number 0) [] (line refuseWord (position ∷ number ∷ []))
+
+-- of each refused record
 unfoldable pub refusalLines : ℕ → Run → List (List ℕ) → List ℕ
 refusalLines position r [] = []
 refusalLines position r (s ∷ l) =
-    pick (eqb (stepOf r s .number) 0) [] (line refuseWord (position ∷ stepOf r s .number ∷ []))
+    refusalLine position (stepOf r s .number)
     ++ refusalLines (position + 1) (stepOf r s .run) l
 
--- the page of a log; `long` alone over 65,536 bytes
+-- the report (page, in document 01) of a log; `long` alone over 65,536 bytes
 unfoldable pub reportOf : List ℕ → List ℕ
-reportOf log = pick (ltb 65536 (length log)) (line longWord []) (refusalLines 1 fresh (recordsOf log) ++ closing (runOf log))
+reportOf log = pick (ltb longest (length log)) (line longWord []) (refusalLines 1 fresh (recordsOf log) ++ closing (runOf log))

@@ -12,12 +12,11 @@ use lib.Dec.{eqb, leb}
 use borrow.Author.Tests.{leb-true, eq-eqb, ne-eqb}
 use Rattle.lists.specs.Tests.{pick, pick-case, and-left, and-right, pick-same}
 use Rattle.records.specs.Tags.{Tag, SU, DE, VE, CH, RE, unknown}
-use Rattle.text.specs.Lines.{line}
 use Rattle.run.specs.declared.Run.{Run}
 use Rattle.run.specs.Runs.{fresh}
 use Rattle.run.specs.Steps.{stepOf, afterFrom, after}
 use Rattle.log.specs.Cutting.{lengthAt, lengthOf, whole, cutFrom, recordsOf, runOf}
-use Rattle.log.specs.Report.{refuseWord, refusalLines}
+use Rattle.log.specs.Report.{refusalLine, refusalLines}
 
 -- the length of the next record: by its tag where it is whole, else all that is left
 unfoldable pub nextLength : Run → List ℕ → ℕ
@@ -109,18 +108,14 @@ records-next r s p = go (length s) refl
 
 -- ---- lines and run, turn by turn
 
--- the line of one record, if it is refused
-unfoldable pub lineOf : ℕ → ℕ → List ℕ
-lineOf position number = pick (eqb number 0) [] (line refuseWord (position ∷ number ∷ []))
-
 pub lines-none : (position : ℕ) (r : Run) → linesFrom position r [] ≡ []
 unfolding linesFrom refusalLines
 lines-none position r = rw (records-none r)
 
 pub lines-next : (position : ℕ) (r : Run) (s : List ℕ) → 0 < length s →
     let reply = stepOf r (nextRecord r s) in
-    linesFrom position r s ≡ lineOf position (reply .number) ++ linesFrom (position + 1) (reply .run) (nextRest r s)
-unfolding linesFrom refusalLines lineOf
+    linesFrom position r s ≡ refusalLine position (reply .number) ++ linesFrom (position + 1) (reply .run) (nextRest r s)
+unfolding linesFrom refusalLines
 lines-next position r s p = rw (records-next r s p)
 
 pub run-none : (r : Run) → runFrom r [] ≡ r

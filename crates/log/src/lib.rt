@@ -9,13 +9,16 @@ ghost use Rattle.text.specs.Texts.{Wrote};
 ghost use Rattle.run.specs.Runs.{fresh};
 ghost use Rattle.closing.specs.Closing.{closing};
 ghost use Rattle.log.specs.Cutting.{lengthOf, recordsOf, runOf};
-ghost use Rattle.log.specs.Report.{refuseWord, refusalLines};
+ghost use Rattle.log.specs.Report.{refuseWord, longest, refusalLines};
 ghost use Rattle.log.specs.Turns.{nextLength};
 ghost use Rattle.log.specs.Printed.{mostReport, printed};
 use run::Run;
 
 // Room for every page.
 pub const REPORT: usize = 300000;
+
+// The bytes of the longest log that is read.
+pub const LONGEST: usize = 65536;
 
 // The length that a log's next record has by its tag, or 0.
 pub fn record_length(run: Run, rest: &[u8]) -> usize
@@ -56,7 +59,7 @@ fn next_length(run: Run, rest: &[u8]) -> usize
     length
 }
 
-// The line of a refused record.
+// The line of a refused record: its position (place, in document 01) and its number.
 fn put_refusal(out: &mut [u8], at: usize, position: u32, number: u8) -> usize
     requires { ⌜ at + 32 ≤ length (now out) ⌝ }
     ensures { λ r. ⌜ Wrote (now (out .entry)) (now (out .exit)) at r (line refuseWord (position ∷ number ∷ [])) ⌝ }
@@ -67,7 +70,7 @@ fn put_refusal(out: &mut [u8], at: usize, position: u32, number: u8) -> usize
 
 // The page of a log that is not too long, into a buffer with room for every page.
 fn put_page(log: &[u8], out: &mut [u8]) -> usize
-    requires { ⌜ (length (now log) ≤ 65536) × (mostReport ≤ length (now out)) ⌝ }
+    requires { ⌜ (length (now log) ≤ longest) × (mostReport ≤ length (now out)) ⌝ }
     ensures { λ r. ⌜ Wrote (now (out .entry)) (now (out .exit)) 0 r (refusalLines 1 fresh (recordsOf (now (log .entry))) ++ closing (runOf (now (log .entry)))) ⌝ }
 {
     let mut run = Run::fresh();
@@ -96,7 +99,7 @@ fn put_page(log: &[u8], out: &mut [u8]) -> usize
     closing::put_closing(out, at, run)
 }
 
-// The page of a log into a buffer that has room for every page, and how long it is; into any other nothing.
+// The report (page, in document 01) of a log into a buffer that has room for every page, and how long it is; into any other nothing.
 pub fn report(log: &[u8], out: &mut [u8]) -> usize
     ensures size { λ r. ⌜ r ≡ length (printed (length (now (out .entry))) (now (log .entry))) ⌝ }
     ensures bytes { λ _. ⌜ now (out .exit) ≡ sets (now (out .entry)) 0 (printed (length (now (out .entry))) (now (log .entry))) ⌝ }
@@ -104,7 +107,7 @@ pub fn report(log: &[u8], out: &mut [u8]) -> usize
     if out.len() < REPORT {
         return 0;
     }
-    if 65536 < log.len() {
+    if LONGEST < log.len() {
         return text::put_text(out, 0, b"long\n");
     }
     put_page(log, out)

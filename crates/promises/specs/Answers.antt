@@ -17,7 +17,7 @@ use Rattle.answers.specs.declared.Nonce.the-variants as N
 use Rattle.answers.specs.declared.Signature.the-variants as S
 use Rattle.response.specs.Definitions.{transcript}
 use Rattle.run.specs.Runs.{stageOf, transcriptOf, kept}
-use Rattle.answers.specs.Answers.{badOf, unblamedOf, noSets, keptSets, setsOf, inBatch, nonceOf, signatureOf, nonceValues, signatureValues}
+use Rattle.answers.specs.Answers.{badOf, unblamedOf, noSets, keptSets, setsOf, inBatch, nonceOf, phiAnswer, nonceValues, phiValues}
 use Rattle.run.specs.Steps.{after}
 use Rattle.promises.specs.Lists.{accepted, hold, bad, qualified, read, phi, stageBy}
 use Rattle.promises.specs.Places.{isPlace, place-of}
@@ -35,8 +35,8 @@ module _ (l : List (List ℕ)) where
   nonceBy u k = pick ((leb 3 (stageBy l) && leb (stageBy l) 5) && isPlace (read l) u k) (nonce (read l) u k ∷ []) []
 
   -- φ(u,k) at stage 5, at the places of the list
-  unfoldable pub signatureBy : ℕ → ℕ → List Scalar
-  signatureBy u k = pick (eqb (stageBy l) 5 && isPlace (read l) u k) (phi l u k ∷ []) []
+  unfoldable pub phiBy : ℕ → ℕ → List Scalar
+  phiBy u k = pick (eqb (stageBy l) 5 && isPlace (read l) u k) (phi l u k ∷ []) []
 
 -- HOLD, QUAL and BAD are fixed, and have the members that the accepted records give them
 pub record Fixed (l : List (List ℕ)) : Type 0 where
@@ -46,11 +46,8 @@ pub record Fixed (l : List (List ℕ)) : Type 0 where
   pub bad-is : (i : ℕ) → has (setsOf (after l) .bad) i ≡ bad (accepted l) i
 
 -- they are not fixed, and empty
-pub record Unfixed (l : List (List ℕ)) : Type 0 where
-  pub unfixed : setsOf (after l) .fixed ≡ false
-  pub hold-none : setsOf (after l) .hold ≡ 0
-  pub qual-none : setsOf (after l) .qual ≡ 0
-  pub bad-none : setsOf (after l) .bad ≡ 0
+abbrev pub Unfixed : List (List ℕ) → Type 0
+Unfixed l = setsOf (after l) ≡ noSets
 
 -- the stage is the one that the accepted records bring; the sets are fixed from stage 3 on; and R(u,k) and φ(u,k) are answered where they are
 -- due, and nothing elsewhere
@@ -59,7 +56,7 @@ pub record Answers (l : List (List ℕ)) : Type 0 where
   pub sets : 3 ≤ stageBy (accepted l) → Fixed l
   pub no-sets : stageBy (accepted l) < 3 → Unfixed l
   pub nonces : (u k : ℕ) → nonceValues (nonceOf (after l) u k) ≡ nonceBy (accepted l) u k
-  pub signatures : (u k : ℕ) → signatureValues (signatureOf (after l) u k) ≡ signatureBy (accepted l) u k
+  pub phis : (u k : ℕ) → phiValues (phiAnswer (after l) u k) ≡ phiBy (accepted l) u k
 
 -- ---- the proof
 
@@ -91,13 +88,9 @@ module _ (l : List (List ℕ)) where
         bad-is = λ i. rw e (made-bad l p i);
       }
 
-  sets-none : stageBy (accepted l) < 3 → setsOf (after l) ≡ noSets
-  unfolding setsOf
-  sets-none m = rw (stage-is, lt-leb 3 (stageBy (accepted l)) m)
-
   sets-unfixed : stageBy (accepted l) < 3 → Unfixed l
-  unfolding noSets
-  sets-unfixed m = let e = sets-none m in record { unfixed = rw e; hold-none = rw e; qual-none = rw e; bad-none = rw e }
+  unfolding setsOf
+  sets-unfixed m = rw (stage-is, lt-leb 3 (stageBy (accepted l)) m)
 
   -- ---- R and φ
 
@@ -117,10 +110,10 @@ module _ (l : List (List ℕ)) where
       live : (leb 3 (stageBy (accepted l)) && leb (stageBy (accepted l)) 5) ≡ true → 0 < after l .stage
       live e = omega (arith, stage-by l, leb-true 3 (stageBy (accepted l)) (and-left _ _ e))
 
-  signature-is : (u k : ℕ) → signatureValues (signatureOf (after l) u k) ≡ signatureBy (accepted l) u k
-  unfolding signatureOf signatureValues signatureBy
-  signature-is u k =
-      pick-map signatureValues (eqb (stageOf (after l)) 5 && inBatch (after l) u k) (S.Is (kept (after l) u k)) S.None
+  phi-is : (u k : ℕ) → phiValues (phiAnswer (after l) u k) ≡ phiBy (accepted l) u k
+  unfolding phiAnswer phiValues phiBy
+  phi-is u k =
+      pick-map phiValues (eqb (stageOf (after l)) 5 && inBatch (after l) u k) (S.Is (kept (after l) u k)) S.None
       ∙ ap (λ (g : ℕ). pick (eqb g 5 && inBatch (after l) u k) (kept (after l) u k ∷ []) []) stage-is
       ∙ choice-same (eqb (stageBy (accepted l)) 5) _ _ _ _ [] (λ e. place-same (omega (arith, done e)) u k)
       (λ e d. ap (λ (x : Scalar). x ∷ []) (kept-is l (done e) u k (place-of (read (accepted l)) u k d)))
@@ -130,4 +123,4 @@ module _ (l : List (List ℕ)) where
 
 -- what the run of every list answers is what its accepted records say
 pub answers : (l : List (List ℕ)) → Answers l
-answers l = record { stage = stage-is l; sets = sets-fixed l; no-sets = sets-unfixed l; nonces = nonce-is l; signatures = signature-is l }
+answers l = record { stage = stage-is l; sets = sets-fixed l; no-sets = sets-unfixed l; nonces = nonce-is l; phis = phi-is l }

@@ -15,7 +15,7 @@ use Rattle.sets.specs.MaskLaws.{has-none, has-maskOf, has-above, has-le, maskOf
 use Rattle.field.specs.Definitions.{scalar, element}
 use Rattle.records.specs.Bytes.{numberAt, word, sender}
 use Rattle.records.specs.Tags.{Tag, SU, DE, VE, CH, RE, unknown, tagOf, sharesFrom}
-use Rattle.refusals.specs.Refusals.{setupRefusal, dealingRefusal, complaintRefusal, challengesRefusal, responseRefusal}
+use Rattle.refusals.specs.Refusals.{setupRefusal, headRefusal, dealingRefusal, complaintRefusal, challengesRefusal, responseRefusal}
 use Rattle.refusals.specs.RefusalLaws.{complaint-passed}
 use Rattle.protocol.specs.Transcript.{validShare}
 use Rattle.run.specs.declared.Run.{Run}
@@ -129,12 +129,16 @@ setup-other : (s : List ℕ) → setupRefusal s ≢ 13
 unfolding setupRefusal
 setup-other s = other _ 2 _ refl (other _ 3 _ refl (other _ 4 _ refl (other _ 7 0 refl (eqb-false 0 13 refl))))
 
+head-other : (n size : ℕ) (s : List ℕ) → headRefusal n size s ≢ 13
+unfolding headRefusal
+head-other n size s = other _ 2 _ refl (other _ 3 _ refl (other _ 5 0 refl (eqb-false 0 13 refl)))
+
 module _ (r : Run) (s : List ℕ) where
   dealing-other : dealingNumber (r .setup) (r .dealings) s ≢ 13
   unfolding dealingNumber dealingRefusal
   dealing-other =
       or-other _ _
-      (other _ 2 _ refl (other _ 3 _ refl (other _ 5 _ refl (other _ 7 _ refl (other _ 6 0 refl (eqb-false 0 13 refl))))))
+      (or-other _ _ (head-other _ _ s) (other _ 7 _ refl (other _ 6 0 refl (eqb-false 0 13 refl))))
       (other _ 12 0 refl (eqb-false 0 13 refl))
 
   challenges-other : challengesRefusal (r .setup .n) (r .setup .t) (r .setup .a) s ≢ 13
@@ -145,12 +149,12 @@ module _ (r : Run) (s : List ℕ) where
   unfolding responseNumber responseRefusal
   response-other =
       or-other _ _
-      (other _ 2 _ refl (other _ 3 _ refl (other _ 5 _ refl (other _ 6 0 refl (eqb-false 0 13 refl)))))
+      (or-other _ _ (head-other _ _ s) (other _ 6 0 refl (eqb-false 0 13 refl)))
       (other _ 12 _ refl (other _ 14 _ refl (other _ 15 0 refl (eqb-false 0 13 refl))))
 
   complaint-other : (n : ℕ) → complaintRefusal n s ≢ 13
   unfolding complaintRefusal
-  complaint-other n = other _ 2 _ refl (other _ 3 _ refl (other _ 5 _ refl (other _ 8 0 refl (eqb-false 0 13 refl))))
+  complaint-other n = or-other _ _ (head-other _ _ s) (other _ 8 0 refl (eqb-false 0 13 refl))
 
   -- every blamed dealer may be blamed
   abbrev blamesRightly : Bool

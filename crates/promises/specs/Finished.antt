@@ -7,16 +7,15 @@ use mathlib.Core.List.{List, []}
 use Prim.Native.Nat.{ℕ, _+_, _-_, _≤_, _<_}
 use native.Mathlib.Omega.{arith}
 use lib.ListN.{length, getD}
-use borrow.Author.Tests.{eqb-true}
 use Rattle.lists.specs.Members.{All, all-getD, all-map, Distinct, distinct-getD}
 use Rattle.sets.specs.Masks.{has}
 use Rattle.sets.specs.MemberLaws.{Member, members-all, members-distinct}
 use Rattle.field.specs.declared.Element.{Element}
-use Rattle.field.specs.Definitions.{scalar, element, generator, IsScalar, product, raise}
+use Rattle.field.specs.Definitions.{scalar, generator, IsScalar, product, raise}
 use Rattle.field.specs.ElementLaws.{generator-unique, same-is}
 use Rattle.interpolation.specs.Definitions.{party}
 use Rattle.interpolation.specs.Laws.{scalarAt-range}
-use Rattle.records.specs.Parameters.{quorum, batch}
+use Rattle.records.specs.Parameters.{mostParties, quorum, batch}
 use Rattle.records.specs.Bytes.{word, sender}
 use Rattle.records.specs.Tags.{RE}
 use Rattle.protocol.specs.Transcript.{Transcript, passes, nonce, responseAt}
@@ -29,22 +28,22 @@ use Rattle.run.specs.Runs.{transcriptOf, kept}
 use Rattle.run.specs.Steps.{after}
 use Rattle.promises.specs.Lists.{accepted, ofTag, sentBy, recordOf, hold, read, phi}
 use Rattle.promises.specs.ListLaws.{recordOf-all, recordOf-sender}
-use Rattle.promises.specs.Invariant.{Row, Live, live-bounds}
+use Rattle.promises.specs.Invariant.{PassingRow, Live, live-bounds}
 use Rattle.promises.specs.Places.{Within, within-same, cell-lt, cell-u, cell-k}
 use Rattle.promises.specs.Made.{made-live, made-sound, made-hold, made-alike}
 
 -- ---- the signature equation
 
--- R(u,k) × S^e(u,k)
-abbrev pub signatureOf : Transcript → ℕ → ℕ → Element
-signatureOf w u k = product (nonce w u k) (raise (w .key 0) (w .challenge u k))
+-- its right side, R(u,k) × S^e(u,k)
+abbrev pub rightSide : Transcript → ℕ → ℕ → Element
+rightSide w u k = product (nonce w u k) (raise (w .key 0) (w .challenge u k))
 
 -- what is alike has one equation
-pub equation-same : (w z : Transcript) → Alike w z → (u k : ℕ) → Within w u k → signatureOf w u k ≡ signatureOf z u k
+pub equation-same : (w z : Transcript) → Alike w z → (u k : ℕ) → Within w u k → rightSide w u k ≡ rightSide z u k
 equation-same w z h u k c = ap₂ product (nonce-same w z h u k) (ap₂ raise (h .key-same 0 (omega arith)) (h .challenge-same u k (c .u-pos) (c .u-max) (c .k-pos) (c .k-max)))
 
 -- the number of a row for u
-row-passes : (w : Transcript) (holders : ℕ) (s : List ℕ) → Row w holders s → (u : ℕ) → 0 < u → u ≤ batch (w .n) (w .t)
+row-passes : (w : Transcript) (holders : ℕ) (s : List ℕ) → PassingRow w holders s → (u : ℕ) → 0 < u → u ≤ batch (w .n) (w .t)
     → raise generator (scalar (word s 4 (u - 1))) ≡ responseAt w u (party (sender s))
 unfolding passes
 row-passes w holders s h u p l =
@@ -67,7 +66,7 @@ module _ (l : List (List ℕ)) (e : after l .stage ≡ 5) where
   alike : Alike w (read (accepted l))
   alike = made-alike l (omega arith)
 
-  party-max : r .setup .n ≤ 32
+  party-max : r .setup .n ≤ mostParties
   party-max = live-bounds r _ live .n-max
 
   -- need rows were accepted, of different members of HOLD
@@ -79,14 +78,14 @@ module _ (l : List (List ℕ)) (e : after l .stage ≡ 5) where
   rows-differ = live .responses .senders .differ
 
   pub rows-held : All (λ s. hold (accepted l) (sender s) ≡ true) rows
-  rows-held = all-map (Row w (r .complaints .holders)) _ (λ s c. sym (made-hold l (omega arith) (sender s)) ∙ c .held) rows (live .rows)
+  rows-held = all-map (PassingRow w (r .complaints .holders)) _ (λ s c. sym (made-hold l (omega arith) (sender s)) ∙ c .held) rows (live .rows)
 
   module _ (u k : ℕ) (place : Within (read (accepted l)) u k) where
     within : Within w u k
     within = within-same (read (accepted l)) w (sym (alike .n-same)) (sym (alike .t-same)) (sym (alike .a-same)) u k place
 
     -- the rows of the list
-    list-verifies : raise generator (phi (accepted l) u k) ≡ signatureOf w u k
+    list-verifies : raise generator (phi (accepted l) u k) ≡ rightSide w u k
     unfolding phi transcriptOf transcript
     list-verifies =
         signature w u (made-sound l (omega arith)) (length rows) (sym (live .responses .senders .number-is) ∙ live .stage .done e .full)
@@ -103,7 +102,7 @@ module _ (l : List (List ℕ)) (e : after l .stage ≡ 5) where
         ∙ row-passes w _ (recordOf j rows) (recordOf-all j _ rows (live .rows) sent) u (within .u-pos) (within .u-max)
         ∙ ap (λ (x : ℕ). responseAt w u (party x)) (recordOf-sender j rows sent)
 
-    run-verifies : raise generator (phiOf (r .setup .n) (r .responses) u k) ≡ signatureOf w u k
+    run-verifies : raise generator (phiOf (r .setup .n) (r .responses) u k) ≡ rightSide w u k
     unfolding phiOf transcriptOf transcript
     run-verifies =
         signature w u (made-sound l (omega arith)) (length (respondersOf (r .setup .n) (r .responses))) (sym (live .responses .senders .members-are) ∙ live .stage .done e .full)
@@ -131,5 +130,5 @@ module _ (l : List (List ℕ)) (e : after l .stage ≡ 5) where
         ∙ generator-unique (phiOf (r .setup .n) (r .responses) u k) (phi (accepted l) u k) run-range phi-range (run-verifies ∙ sym list-verifies)
 
     -- the equation, in what the list has
-    pub phi-verifies : raise generator (phi (accepted l) u k) ≡ signatureOf (read (accepted l)) u k
+    pub phi-verifies : raise generator (phi (accepted l) u k) ≡ rightSide (read (accepted l)) u k
     phi-verifies = list-verifies ∙ equation-same w (read (accepted l)) alike u k within

@@ -14,7 +14,7 @@ use Rattle.sets.specs.Masks.{has, count}
 use Rattle.field.specs.declared.Scalar.{Scalar}
 use Rattle.field.specs.Definitions.{scalar, element, IsElement, identity}
 use Rattle.protocol.specs.Transcript.{Transcript, passes}
-use Rattle.records.specs.Parameters.{quorum, batch}
+use Rattle.records.specs.Parameters.{mostParties, places, cells, quorum, batch}
 use Rattle.records.specs.Bytes.{byteAt, numberAt, word, sender}
 use Rattle.records.specs.Tags.{Tag, SU, DE, VE, CH, RE}
 use Rattle.refusals.specs.Refusals.{setupRefusal, dealingRefusal}
@@ -44,8 +44,8 @@ pub record SetupOf (setup : Setup) (s : List ℕ) : Type 0 where
 
 -- l holds the accepted DE
 pub record DealingsOf (setup : Setup) (d : Dealings) (l : List (List ℕ)) : Type 0 where
-  pub commitments-size : length (d .commitments) ≡ 1024
-  pub wrong-size : length (d .wrong) ≡ 32
+  pub commitments-size : length (d .commitments) ≡ places
+  pub wrong-size : length (d .wrong) ≡ mostParties
   pub senders : Senders (setup .n) (d .count) (d .dealers) l
   pub slots : Slots element identity (quorum (setup .t) (setup .a)) (d .commitments) l
   pub wrong-is : Marks (wrongShares setup) (d .wrong) l
@@ -54,24 +54,24 @@ pub record DealingsOf (setup : Setup) (d : Dealings) (l : List (List ℕ)) : Typ
 -- l holds the accepted VE, whose masks are kept; only accepted dealers are blamed
 pub record ComplaintsOf (setup : Setup) (dealers : ℕ) (c : Complaints) (l : List (List ℕ)) : Type 0 where
   pub senders : Senders (setup .n) (c .count) (c .holders) l
-  pub masks-size : length (c .masks) ≡ 32
+  pub masks-size : length (c .masks) ≡ mostParties
   pub masks-are : Marks (λ s. numberAt s 4) (c .masks) l
   pub blamed-is : (i : ℕ) → has (blamedBy (setup .n) c) i ≡ some (λ s. has (numberAt s 4) i) l
   pub founded : All (λ s. (i : ℕ) → has (numberAt s 4) i ≡ true → has dealers i ≡ true) l
 
 -- s is the accepted CH; empty before there is one, and then every number is 0
 pub record ChallengesOf (setup : Setup) (kept : List Scalar) (s : List ℕ) : Type 0 where
-  pub size : length kept ≡ 512
+  pub size : length kept ≡ cells
   pub challenge-is : (x : ℕ) → x < setup .a * batch (setup .n) (setup .t) → getD kept x (scalar 0) ≡ scalar (word s 4 x)
 
 -- l holds the accepted RE
 pub record ResponsesOf (setup : Setup) (p : Responses) (l : List (List ℕ)) : Type 0 where
-  pub numbers-size : length (p .numbers) ≡ 1024
+  pub numbers-size : length (p .numbers) ≡ places
   pub senders : Senders (setup .n) (p .count) (p .responders) l
   pub slots : Slots scalar (scalar 0) (batch (setup .n) (setup .t)) (p .numbers) l
 
 -- a response row of a member of HOLD, whose numbers pass
-pub record Row (w : Transcript) (holders : ℕ) (s : List ℕ) : Type 0 where
+pub record PassingRow (w : Transcript) (holders : ℕ) (s : List ℕ) : Type 0 where
   pub held : has holders (sender s) ≡ true
   pub passing : (x : ℕ) → x < batch (w .n) (w .t) → passes w (x + 1) (sender s) (scalar (word s 4 x)) ≡ true
 
@@ -108,8 +108,8 @@ pub record Live (r : Run) (f : Tag → List (List ℕ)) : Type 0 where
   pub complaints : ComplaintsOf (r .setup) (r .dealings .dealers) (r .complaints) (f VE)
   pub challenges : ChallengesOf (r .setup) (r .challenges) (first (f CH))
   pub responses : ResponsesOf (r .setup) (r .responses) (f RE)
-  pub rows : All (Row (transcriptOf r) (r .complaints .holders)) (f RE)
-  pub signatures-size : length (r .signatures) ≡ 512
+  pub rows : All (PassingRow (transcriptOf r) (r .complaints .holders)) (f RE)
+  pub signatures-size : length (r .signatures) ≡ cells
   pub stage : AtStage (r .stage) r f
 
 -- need response rows end stage 4
@@ -134,7 +134,7 @@ module _ (setup : Setup) (s : List ℕ) (h : SetupOf setup s) where
   unfolding setupOf noSetup
   key-is j l =
       ap (λ (z : Setup). getD (z .key) j identity) (h .setup-is)
-      ∙ stored-from _ (byteAt s 3 + 1) _ identity (omega (arith, length-filled 32 identity, key-max setup-bounds, ap (λ (z : Setup). z .t) (h .setup-is))) j
+      ∙ stored-from _ (byteAt s 3 + 1) _ identity (omega (arith, length-filled mostParties identity, key-max setup-bounds, ap (λ (z : Setup). z .t) (h .setup-is))) j
       (omega (arith, ap (λ (z : Setup). z .t) (h .setup-is)))
 
   pub key-element : (j : ℕ) → j ≤ setup .t → IsElement (getD (setup .key) j identity)

@@ -1,20 +1,18 @@
 -- The parts of the invariant with no record, and with one more: what an accepted DE, VE and RE tells, and what it adds. Assumes nothing.
-use mathlib.Core.Path.{_≡_, refl, sym, ap, _∙_}
-use mathlib.Core.Bool.{Bool, true, false, not, _||_}
+use mathlib.Core.Path.{_≡_, sym, ap, _∙_}
+use mathlib.Core.Bool.{Bool, true, not, _||_}
 use mathlib.Core.List.{List, []}
 use Prim.Native.Nat.{ℕ, _+_, _-_, _^_, _≤_, _<_}
 use native.Mathlib.Omega.{arith}
 use native.Mathlib.Decide.{decLt}
 use lib.ListN.{length-set}
-use lib.Dec.{eqb}
-use borrow.Author.Tests.{eqb-true, eqb-false}
-use Rattle.lists.specs.Tests.{pick, allTo, all-at, no-both, not-yes, and-left, passed, orNext}
+use Rattle.lists.specs.Tests.{allTo, all-at, no-both, not-yes, and-left, passed, or-next}
 use Rattle.lists.specs.Members.{all-map, all-snoc}
 use Rattle.lists.specs.Stores.{length-stored, length-filled}
 use Rattle.sets.specs.Masks.{has, insert}
 use Rattle.sets.specs.MaskLaws.{has-insert, has-above}
 use Rattle.field.specs.Definitions.{scalar, element, identity}
-use Rattle.records.specs.Parameters.{quorum, batch}
+use Rattle.records.specs.Parameters.{mostParties, places, quorum, batch}
 use Rattle.records.specs.Bytes.{numberAt, sender}
 use Rattle.refusals.specs.Refusals.{dealingRefusal}
 use Rattle.records.specs.Laws.{Bounds, quorum-max, batch-max}
@@ -32,16 +30,7 @@ use Rattle.complaint.specs.ComplaintLaws.{blamed-none, blamed-more}
 use Rattle.promises.specs.Lists.{some}
 use Rattle.promises.specs.ListLaws.{snoc, some-snoc}
 use Rattle.promises.specs.Senders.{New, has-pos, senders-none, slots-none, marks-none, senders-more, slots-more, marks-more}
-use Rattle.promises.specs.Invariant.{DealingsOf, ComplaintsOf, ResponsesOf, Row}
-
--- no refusal: none before, and none after
-or-next : (k next : ℕ) → orNext k next ≡ 0 → (k ≡ 0) × (next ≡ 0)
-unfolding orNext
-or-next k next e = go (eqb k 0) refl e
-  where
-    go : (b : Bool) → eqb k 0 ≡ b → pick b next k ≡ 0 → (k ≡ 0) × (next ≡ 0)
-    go true d e = (eqb-true k 0 d, e)
-    go false d e = absurd (eqb-false k 0 d e)
+use Rattle.promises.specs.Invariant.{DealingsOf, ComplaintsOf, ResponsesOf, PassingRow}
 
 -- ---- no record
 
@@ -49,8 +38,8 @@ pub no-dealings : (setup : Setup) → DealingsOf setup noDealings []
 unfolding noDealings some
 no-dealings setup =
     record {
-      commitments-size = length-filled 1024 identity;
-      wrong-size = length-filled {A = ℕ} 32 0;
+      commitments-size = length-filled places identity;
+      wrong-size = length-filled {A = ℕ} mostParties 0;
       senders = senders-none (setup .n);
       slots = slots-none element identity (quorum (setup .t) (setup .a)) (noDealings .commitments);
       wrong-is = marks-none (wrongShares setup) (noDealings .wrong);
@@ -62,7 +51,7 @@ unfolding noComplaints some
 no-complaints setup dealers =
     record {
       senders = senders-none (setup .n);
-      masks-size = length-filled {A = ℕ} 32 0;
+      masks-size = length-filled {A = ℕ} mostParties 0;
       masks-are = marks-none (λ s. numberAt s 4) (noComplaints .masks);
       blamed-is = blamed-none (setup .n);
       founded = tt;
@@ -72,7 +61,7 @@ pub no-responses : (setup : Setup) → ResponsesOf setup noResponses []
 unfolding noResponses
 no-responses setup =
     record {
-      numbers-size = length-filled 1024 (scalar 0);
+      numbers-size = length-filled places (scalar 0);
       senders = senders-none (setup .n);
       slots = slots-none scalar (scalar 0) (batch (setup .n) (setup .t)) (noResponses .numbers);
     }
@@ -103,7 +92,7 @@ module _ (setup : Setup) (d : Dealings) (s : List ℕ) (l : List (List ℕ)) (b 
 -- ---- VE
 
 -- one more dealer
-pub complaints-kept : (setup : Setup) (dealers : ℕ) (c : Complaints) (s : List ℕ) (l : List (List ℕ)) → setup .n ≤ 32 → New (setup .n) dealers s
+pub complaints-kept : (setup : Setup) (dealers : ℕ) (c : Complaints) (s : List ℕ) (l : List (List ℕ)) → setup .n ≤ mostParties → New (setup .n) dealers s
     → ComplaintsOf setup dealers c l → ComplaintsOf setup (insert dealers (sender s)) c l
 complaints-kept setup dealers c s l b new h =
     record {
@@ -140,7 +129,7 @@ complaint-new r s e =
     let p₂ = passed _ 13 0 (p₁ .1) (omega arith) in
     (record { sender-pos = p .sender-pos; sender-max = p .sender-max; unsent = not-yes _ (p₁ .0) }, blames-dealers (r .setup .n) (sender s) (numberAt s 4) (r .dealings) (p .mask) (p₂ .0))
 
-pub complaints-more : (setup : Setup) (dealers : ℕ) (c : Complaints) (s : List ℕ) (l : List (List ℕ)) → setup .n ≤ 32 → New (setup .n) (c .holders) s
+pub complaints-more : (setup : Setup) (dealers : ℕ) (c : Complaints) (s : List ℕ) (l : List (List ℕ)) → setup .n ≤ mostParties → New (setup .n) (c .holders) s
     → ((i : ℕ) → has (numberAt s 4) i ≡ true → has dealers i ≡ true) → ComplaintsOf setup dealers c l → ComplaintsOf setup dealers (withComplaint c s) (snoc l s)
 unfolding withComplaint
 complaints-more setup dealers c s l b new blames h =
@@ -158,7 +147,7 @@ complaints-more setup dealers c s l b new blames h =
 -- ---- RE
 
 pub response-new : (r : Run) (s : List ℕ) → responseNumber (r .setup) (r .dealings) (r .complaints) (r .challenges) (r .responses) s ≡ 0
-    → New (r .setup .n) (r .responses .responders) s × Row (transcriptOf r) (r .complaints .holders) s
+    → New (r .setup .n) (r .responses .responders) s × PassingRow (transcriptOf r) (r .complaints .holders) s
 unfolding responseNumber transcriptOf transcript
 response-new r s e =
     let c = or-next _ _ e in

@@ -12,7 +12,7 @@ use Rattle.lists.specs.Members.{all-snoc}
 use Rattle.lists.specs.Stores.{length-stored, stored-from, length-filled, getD-filled}
 use Rattle.sets.specs.Masks.{has, count}
 use Rattle.field.specs.Definitions.{scalar}
-use Rattle.records.specs.Parameters.{quorum}
+use Rattle.records.specs.Parameters.{cells, quorum}
 use Rattle.records.specs.Bytes.{byteAt, numberAt, word}
 use Rattle.records.specs.Tags.{Tag, SU, DE, VE, CH, RE, unknown, tagOf}
 use Rattle.refusals.specs.Refusals.{setupRefusal, challengesRefusal}
@@ -88,10 +88,10 @@ setup-live s e =
       setup = record { setup-is = refl; admitted = e };
       dealings = no-dealings _;
       complaints = no-complaints _ _;
-      challenges = record { size = length-filled 512 (scalar 0); challenge-is = λ x l. getD-filled 512 (scalar 0) x };
+      challenges = record { size = length-filled cells (scalar 0); challenge-is = λ x l. getD-filled cells (scalar 0) x };
       responses = no-responses _;
       rows = tt;
-      signatures-size = length-filled 512 (scalar 0);
+      signatures-size = length-filled cells (scalar 0);
       stage = waiting _ _ (refl, refl) refl 1 refl (record {
         dealing = λ z. omega arith;
         dealt = λ z. omega arith;

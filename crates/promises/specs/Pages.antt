@@ -12,7 +12,6 @@ use Rattle.lists.specs.Tests.{pick}
 use Rattle.sets.specs.Masks.{has, membersFrom, members}
 use Rattle.sets.specs.MaskLaws.{has-zero}
 use Rattle.sets.specs.MemberLaws.{members-cong}
-use Rattle.field.specs.declared.Scalar.{Scalar}
 use Rattle.field.specs.declared.Element.{Element}
 use Rattle.field.specs.Definitions.{generator, product, raise}
 use Rattle.records.specs.Parameters.{batch}
@@ -21,10 +20,11 @@ use Rattle.protocol.specs.Alike.{nonce-same}
 use Rattle.response.specs.Definitions.{transcript}
 use Rattle.run.specs.Runs.{fresh, stageOf, transcriptOf, kept}
 use Rattle.run.specs.Steps.{after}
+use Rattle.answers.specs.Answers.{noSets}
 use Rattle.log.specs.Cutting.{recordsOf, runOf}
-use Rattle.text.specs.Lines.{line, setText, setLine}
-use Rattle.closing.specs.Closing.{holdWord, qualWord, badWord, sigWord, endWord, signatureLines, closing, signatureLine}
-use Rattle.log.specs.Report.{longWord, refusalLines, reportOf}
+use Rattle.text.specs.Lines.{feed, line, setText, setLine}
+use Rattle.closing.specs.Closing.{holdWord, qualWord, badWord, endWord, sigLine, signatureLine, signatureLines, closing}
+use Rattle.log.specs.Report.{longWord, longest, refusalLines, reportOf}
 use Rattle.promises.specs.Lists.{accepted, hold, bad, qualified, read, phi, stageBy}
 use Rattle.promises.specs.Places.{place-at}
 use Rattle.promises.specs.Made.{made-live, made-alike}
@@ -40,7 +40,7 @@ use Rattle.promises.specs.Answers.{answers}
 module _ (l : List (List ℕ)) where
   -- the members of a set, rising; none before the sets are fixed
   unfoldable pub membersLine : List ℕ → (ℕ → Bool) → List ℕ
-  membersLine word set = word ++ (setText (pick (leb 3 (stageBy l)) (members (read l .n) set) []) ++ (10 ∷ []))
+  membersLine word set = word ++ (setText (pick (leb 3 (stageBy l)) (members (read l .n) set) []) ++ (feed ∷ []))
 
   -- the lines `sig u k R φ` numbered below m, u outer
   unfoldable pub signedLines : ℕ → List ℕ
@@ -48,7 +48,7 @@ module _ (l : List (List ℕ)) where
   signedLines (suc x) =
       let u = x / read l .a + 1 in
       let k = x % read l .a + 1 in
-      signedLines x ++ line sigWord (u ∷ k ∷ nonce (read l) u k .0 ∷ phi l u k .0 ∷ [])
+      signedLines x ++ sigLine u k (nonce (read l) u k) (phi l u k)
 
   -- the sets, at stage 5 every signature, and the stage
   unfoldable pub closingOf : List ℕ
@@ -84,7 +84,7 @@ module _ (l : List (List ℕ)) where
   line-is : (word : List ℕ) (mask : ℕ) (set : ℕ → Bool) → (3 ≤ stageBy (accepted l) → (i : ℕ) → has mask i ≡ set i) → (stageBy (accepted l) < 3 → mask ≡ 0)
       → setLine word (after l .setup .n) mask ≡ membersLine (accepted l) word set
   unfolding setLine membersLine
-  line-is word mask set fixed none = ap (λ (m : List ℕ). word ++ (setText m ++ (10 ∷ []))) (members-are mask set fixed none)
+  line-is word mask set fixed none = ap (λ (m : List ℕ). word ++ (setText m ++ (feed ∷ []))) (members-are mask set fixed none)
 
   -- at stage 5, R(u,k) and φ(u,k) of the list
   signed-lines : after l .stage ≡ 5 → (m : ℕ) → m ≤ read (accepted l) .a * batch (read (accepted l) .n) (read (accepted l) .t) → signatureLines (after l) m ≡ signedLines (accepted l) m
@@ -98,8 +98,8 @@ module _ (l : List (List ℕ)) where
       let k = x % a + 1 in
       let place = place-at (read (accepted l)) x (omega (arith, live-bounds (after l) _ (made-live l p) .a-pos, h .a-same)) (omega arith) in
       ap₂ _++_ (signed-lines e x (omega arith))
-      (ap (λ (a : ℕ). line sigWord ((x / a + 1) ∷ (x % a + 1) ∷ nonce (transcriptOf (after l)) (x / a + 1) (x % a + 1) .0 ∷ kept (after l) (x / a + 1) (x % a + 1) .0 ∷ [])) (h .a-same)
-      ∙ ap₂ (λ (v : Element) (f : Scalar). line sigWord (u ∷ k ∷ v .0 ∷ f .0 ∷ [])) (nonce-same (transcriptOf (after l)) (read (accepted l)) h u k) (kept-is l e u k place))
+      (ap (λ (a : ℕ). sigLine (x / a + 1) (x % a + 1) (nonce (transcriptOf (after l)) (x / a + 1) (x % a + 1)) (kept (after l) (x / a + 1) (x % a + 1))) (h .a-same)
+      ∙ ap₂ (sigLine u k) (nonce-same (transcriptOf (after l)) (read (accepted l)) h u k) (kept-is l e u k place))
 
   signatures-are : pick (eqb (stageOf (after l)) 5) (signatureLines (after l) (after l .setup .a * batch (after l .setup .n) (after l .setup .t))) []
       ≡ pick (eqb (stageBy (accepted l)) 5) (signedLines (accepted l) (read (accepted l) .a * batch (read (accepted l) .n) (read (accepted l) .t))) []
@@ -118,18 +118,18 @@ module _ (l : List (List ℕ)) where
       go false d = refl
 
   closing-is : closing (after l) ≡ closingOf (accepted l)
-  unfolding closing closingOf
+  unfolding closing closingOf noSets
   closing-is =
       let h = answers l in
-      ap₂ _++_ (line-is holdWord _ (hold (accepted l)) (λ m. h .sets m .hold-is) (λ m. h .no-sets m .hold-none))
-      (ap₂ _++_ (line-is qualWord _ (qualified (accepted l)) (λ m. h .sets m .qual-is) (λ m. h .no-sets m .qual-none))
-      (ap₂ _++_ (line-is badWord _ (bad (accepted l)) (λ m. h .sets m .bad-is) (λ m. h .no-sets m .bad-none))
+      ap₂ _++_ (line-is holdWord _ (hold (accepted l)) (λ m. h .sets m .hold-is) (λ m. rw (h .no-sets m)))
+      (ap₂ _++_ (line-is qualWord _ (qualified (accepted l)) (λ m. h .sets m .qual-is) (λ m. rw (h .no-sets m)))
+      (ap₂ _++_ (line-is badWord _ (bad (accepted l)) (λ m. h .sets m .bad-is) (λ m. rw (h .no-sets m)))
       (ap₂ _++_ signatures-are (ap (λ (g : ℕ). line endWord (g ∷ [])) (h .stage)))))
 
 -- The page of every log is that of its records: `long` alone over 65,536 bytes, else the refusals and the closing lines of the accepted ones.
-pub page-is : (log : List ℕ) → reportOf log ≡ pick (ltb 65536 (length log)) (line longWord []) (refusalLines 1 fresh (recordsOf log) ++ closingOf (accepted (recordsOf log)))
+pub page-is : (log : List ℕ) → reportOf log ≡ pick (ltb longest (length log)) (line longWord []) (refusalLines 1 fresh (recordsOf log) ++ closingOf (accepted (recordsOf log)))
 unfolding reportOf runOf
-page-is log = ap (λ (c : List ℕ). pick (ltb 65536 (length log)) (line longWord []) (refusalLines 1 fresh (recordsOf log) ++ c)) (closing-is (recordsOf log))
+page-is log = ap (λ (c : List ℕ). pick (ltb longest (length log)) (line longWord []) (refusalLines 1 fresh (recordsOf log) ++ c)) (closing-is (recordsOf log))
 
 -- a line `sig u k R φ` prints `nonce (transcriptOf (runOf log)) u k` and `kept (runOf log) u k`: 4^φ = R × S^e(u,k)
 pub printed-signed : (log : List ℕ) → runOf log .stage ≡ 5 → (u k : ℕ) → Place (recordsOf log) u k

@@ -16,6 +16,7 @@ use Rattle.lists.specs.Stores.{stored, stored-at, stored-other}
 use Rattle.sets.specs.Masks.{has, insert, count}
 use Rattle.sets.specs.MaskLaws.{has-none, has-zero, has-insert}
 use Rattle.sets.specs.MemberLaws.{no-members, more-members, count-le}
+use Rattle.records.specs.Parameters.{mostParties, stride, places}
 use Rattle.records.specs.Bytes.{word, sender}
 use Rattle.arrays.specs.Arrays.{base}
 use Rattle.promises.specs.Lists.{some, sentBy, recordOf}
@@ -67,12 +68,12 @@ senders-max {n} {number} {mask} h = omega (arith, h .members-are, count-le n (ha
 
 -- ---- one more
 
--- 32 slots of 32 stand in 1,024 places, and no two of them meet
-slot-fits : (i v : ℕ) → i ≤ 32 → v ≤ 32 → base i + v ≤ 1024
+-- the slots of all parties stand in a flat array, and no two of them meet
+slot-fits : (i v : ℕ) → i ≤ mostParties → v ≤ stride → base i + v ≤ places
 unfolding base
 slot-fits i v p l = omega arith
 
-slots-apart : (i j v x : ℕ) → 0 < i → 0 < j → v < 32 → x < 32 → base i + v ≡ base j + x → i ≡ j
+slots-apart : (i j v x : ℕ) → 0 < i → 0 < j → v < stride → x < stride → base i + v ≡ base j + x → i ≡ j
 unfolding base
 slots-apart i j v x p k l d e = omega arith
 
@@ -83,7 +84,7 @@ eqb-sym a b = go (eqb a b) refl
     go true e = e ∙ sym (eq-eqb b a (sym (eqb-true a b e)))
     go false e = e ∙ sym (ne-eqb b a (λ d. eqb-false a b e (sym d)))
 
-module _ {n number mask : ℕ} {l : List (List ℕ)} (s : List ℕ) (n-max : n ≤ 32) (c : New n mask s) (h : Senders n number mask l) where
+module _ {n number mask : ℕ} {l : List (List ℕ)} (s : List ℕ) (n-max : n ≤ mostParties) (c : New n mask s) (h : Senders n number mask l) where
   -- it has no record yet
   unsent-yet : sentBy (sender s) l ≡ false
   unsent-yet = sym (h .mask-is (sender s)) ∙ c .unsent
@@ -112,7 +113,7 @@ module _ {n number mask : ℕ} {l : List (List ℕ)} (s : List ℕ) (n-max : n �
       go true e = let d = eqb-true (sender s) i e in rw (recordOf-new i l s (ap (λ j. sentBy j l) (sym d) ∙ unsent-yet) d) (own d)
       go false e = rw (recordOf-other i l s e) (other (eqb-false (sender s) i e))
 
-  pub slots-more : {A : Type 0} (make : ℕ → A) (filler : A) (width : ℕ) (kept : List A) → width ≤ 32 → length kept ≡ 1024 → Slots make filler width kept l
+  pub slots-more : {A : Type 0} (make : ℕ → A) (filler : A) (width : ℕ) (kept : List A) → width ≤ stride → length kept ≡ places → Slots make filler width kept l
       → Slots make filler width (stored kept (base (sender s)) width (λ v. make (word s 4 v))) (snoc l s)
   slots-more make filler width kept width-max size slots i v p d sent =
       recordOf-case (λ z. getD (stored kept (base (sender s)) width (λ v. make (word s 4 v))) (base i + v) filler ≡ make (word z 4 v)) i
@@ -120,7 +121,7 @@ module _ {n number mask : ℕ} {l : List (List ℕ)} (s : List ℕ) (n-max : n �
       (λ other. stored-other kept (base (sender s)) width _ filler (base i + v) (λ x y e. other (sym (slots-apart i (sender s) v x p (c .sender-pos) (omega arith) (omega arith) e)))
       ∙ slots i v p d (sym (sentBy-other i l s other) ∙ sent))
 
-  pub marks-more : (mark : List ℕ → ℕ) (kept : List ℕ) → length kept ≡ 32 → Marks mark kept l → Marks mark (set kept (sender s - 1) (mark s)) (snoc l s)
+  pub marks-more : (mark : List ℕ → ℕ) (kept : List ℕ) → length kept ≡ mostParties → Marks mark kept l → Marks mark (set kept (sender s - 1) (mark s)) (snoc l s)
   marks-more mark kept size marks i p sent =
       recordOf-case (λ z. getD (set kept (sender s - 1) (mark s)) (i - 1) 0 ≡ mark z) i
       (λ own. rw (← own) (getD-set-same kept (sender s - 1) (mark s) 0 (omega arith)))

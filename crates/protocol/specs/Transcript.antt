@@ -23,7 +23,7 @@ pub record Transcript : Type 0 where
 unfoldable pub dealingAt : ℕ → ℕ → (ℕ → Element) → Scalar → Element
 dealingAt t a values x = elementAt (committedPoint a) (quorum t a) values x
 
--- a share is valid (right) for j: 4^share is what the committed values come to at j
+-- a share is valid (right, in document 01) for j: 4^share is what the committed values come to at j
 unfoldable pub validShare : ℕ → ℕ → (ℕ → Element) → ℕ → Scalar → Bool
 validShare t a values j share = sameElement (raise generator share) (dealingAt t a values (party j))
 

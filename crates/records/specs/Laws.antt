@@ -2,13 +2,11 @@
 -- Assumes nothing.
 use mathlib.Core.Path.{_≡_, refl}
 use mathlib.Core.Bool.{true, and-eq-true-iff}
-use mathlib.Core.List.{List}
-use Prim.Native.Nat.{ℕ, _+_, _*_, _-_, _^_, _≤_, _<_}
+use Prim.Native.Nat.{ℕ, _+_, _*_, _-_, _≤_, _<_}
 use native.Mathlib.Omega.{arith}
 use native.Mathlib.Nat.{mul-le-mul, le-trans}
 use borrow.Author.Tests.{leb-true, le-leb}
-use Rattle.records.specs.Parameters.{mostParties, inBounds, quorum, batch, isParty}
-use Rattle.records.specs.Bytes.{byteAt, numberAt}
+use Rattle.records.specs.Parameters.{mostParties, cells, inBounds, quorum, batch, isParty}
 use Rattle.records.specs.Tags.{Tag, SU, DE, VE, CH, RE, unknown, code, decoded}
 
 -- ---- tags
@@ -37,11 +35,11 @@ bounds-of n t a e =
     let p = and-eq-true-iff _ _ .0 e in
     let q = and-eq-true-iff _ _ .0 (p .1) in
     let r = and-eq-true-iff _ _ .0 (q .1) in
-    record { t-pos = leb-true 1 t (p .0); a-pos = leb-true 1 a (q .0); n-max = leb-true n 32 (r .0); enough = leb-true (3 * t + 2 * a) (n + 1) (r .1) }
+    record { t-pos = leb-true 1 t (p .0); a-pos = leb-true 1 a (q .0); n-max = leb-true n mostParties (r .0); enough = leb-true (3 * t + 2 * a) (n + 1) (r .1) }
 
 pub bounds-test : {n t a : ℕ} → Bounds n t a → inBounds n t a ≡ true
 unfolding inBounds
-bounds-test {n} {t} {a} b = rw (le-leb 1 t (b .t-pos), le-leb 1 a (b .a-pos), le-leb n 32 (b .n-max), le-leb (3 * t + 2 * a) (n + 1) (b .enough))
+bounds-test {n} {t} {a} b = rw (le-leb 1 t (b .t-pos), le-leb 1 a (b .a-pos), le-leb n mostParties (b .n-max), le-leb (3 * t + 2 * a) (n + 1) (b .enough))
 
 -- a party's number is from 1 to n
 pub party-of : (n i : ℕ) → isParty n i ≡ true → (0 < i) × (i ≤ n)
@@ -68,10 +66,6 @@ quorum-max b = omega arith
 pub key-max : {n t a : ℕ} → Bounds n t a → t + a ≤ 31
 key-max b = omega arith
 
-pub batch-is : (n t : ℕ) → batch n t ≡ n - 2 * t
-unfolding batch
-batch-is n t = refl
-
 pub batch-pos : {n t a : ℕ} → Bounds n t a → 0 < batch n t
 unfolding batch
 batch-pos b = omega arith
@@ -81,7 +75,7 @@ unfolding batch
 batch-max b = omega arith
 
 -- the challenges: one for each slot and signature
-pub cells-max : {n t a : ℕ} → Bounds n t a → a * batch n t ≤ 512
+pub cells-max : {n t a : ℕ} → Bounds n t a → a * batch n t ≤ cells
 cells-max {n} {t} {a} b =
     let l : a ≤ 15 = omega arith in
     le-trans (mul-le-mul l (batch-max b)) (omega arith)
@@ -91,7 +85,3 @@ cells-max {n} {t} {a} b =
 -- the product of two bytes has 16 bits
 pub byte-product : (x y : ℕ) → x < 256 → y < 256 → x * y ≤ 65025
 byte-product x y p q = let l : x ≤ 255 = omega arith in let m : y ≤ 255 = omega arith in mul-le-mul l m
-
-pub numberAt-lt : (s : List ℕ) (at : ℕ) → ((i : ℕ) → byteAt s i < 256) → numberAt s at < 2 ^ 32
-unfolding numberAt
-numberAt-lt s at h = omega (arith, h at, h (at + 1), h (at + 2), h (at + 3))

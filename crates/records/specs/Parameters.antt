@@ -7,11 +7,22 @@ use lib.Dec.{leb}
 abbrev pub mostParties : ℕ
 mostParties = 32
 
+-- the places of one party's values in a flat array, and of all parties' values
+abbrev pub stride : ℕ
+stride = 32
+
+abbrev pub places : ℕ
+places = mostParties * stride
+
+-- the places of the challenges, and of the numbers φ(u,k)
+abbrev pub cells : ℕ
+cells = 512
+
 -- t and a at least 1, n at most 32, n at least 3t + 2a - 1
 unfoldable pub inBounds : ℕ → ℕ → ℕ → Bool
 inBounds n t a = leb 1 t && (leb 1 a && (leb n mostParties && leb (3 * t + 2 * a) (n + 1)))
 
--- need = d' + 1 with d' = t + 2a - 2: the committed values of a dealing, and the responses that a signature takes
+-- the quorum (need, in document 01), d' + 1 with d' = t + 2a - 2: the committed values of a dealing, and the responses that a signature takes
 unfoldable pub quorum : ℕ → ℕ → ℕ
 quorum t a = t + 2 * a - 1
 

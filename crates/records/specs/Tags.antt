@@ -7,6 +7,7 @@ use Rattle.lists.specs.Tests.{pick}
 use Rattle.records.specs.Parameters.{quorum, batch}
 use Rattle.records.specs.Bytes.{byteAt}
 
+-- VE is a complaint row (verdict, in document 01)
 pub data Tag : Type 0 where
   SU : Tag
   DE : Tag
@@ -28,16 +29,45 @@ code unknown = 0
 unfoldable pub decoded : ℕ → Tag
 decoded k = pick (eqb k 1) SU (pick (eqb k 2) DE (pick (eqb k 3) VE (pick (eqb k 4) CH (pick (eqb k 5) RE unknown))))
 
--- the tag of a record: its first two bytes, in ASCII
+-- the letters of the tags, in ASCII
+abbrev pub letterC : ℕ
+letterC = 67
+
+abbrev pub letterD : ℕ
+letterD = 68
+
+abbrev pub letterE : ℕ
+letterE = 69
+
+abbrev pub letterH : ℕ
+letterH = 72
+
+abbrev pub letterR : ℕ
+letterR = 82
+
+abbrev pub letterS : ℕ
+letterS = 83
+
+abbrev pub letterU : ℕ
+letterU = 85
+
+abbrev pub letterV : ℕ
+letterV = 86
+
+-- two bytes as one number
+abbrev pub pair : ℕ → ℕ → ℕ
+pair x y = x * 256 + y
+
+-- the tag (mark, in document 01) of a record: its first two bytes
 unfoldable pub tagOf : List ℕ → Tag
 tagOf s =
-    let m = byteAt s 0 * 256 + byteAt s 1 in
+    let m = pair (byteAt s 0) (byteAt s 1) in
     pick (ltb (length s) 2) unknown
-    (pick (eqb m 21333) SU
-    (pick (eqb m 17477) DE
-    (pick (eqb m 22085) VE
-    (pick (eqb m 17224) CH
-    (pick (eqb m 21061) RE unknown)))))
+    (pick (eqb m (pair letterS letterU)) SU
+    (pick (eqb m (pair letterD letterE)) DE
+    (pick (eqb m (pair letterV letterE)) VE
+    (pick (eqb m (pair letterC letterH)) CH
+    (pick (eqb m (pair letterR letterE)) RE unknown)))))
 
 -- ---- lengths
 

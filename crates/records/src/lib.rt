@@ -6,6 +6,31 @@ ghost use Rattle.records.specs.Tags.{code, tagOf, setupLength, dealingLe
 use field::Element;
 use field::Scalar;
 
+// The most parties that a committee has.
+pub const MOST_PARTIES: u8 = 32;
+
+// As many places as parties.
+pub const PARTIES: usize = MOST_PARTIES as usize;
+
+// The places of one party's values in a flat array, and of all parties' values.
+pub const STRIDE: usize = 32;
+
+pub const PLACES: usize = PARTIES * STRIDE;
+
+// The places of the challenges, and of the numbers φ(u,k).
+pub const CELLS: usize = 512;
+
+// The five tags, two letters each.
+const SU: u16 = b'S' as u16 * 256 + b'U' as u16;
+
+const DE: u16 = b'D' as u16 * 256 + b'E' as u16;
+
+const VE: u16 = b'V' as u16 * 256 + b'E' as u16;
+
+const CH: u16 = b'C' as u16 * 256 + b'H' as u16;
+
+const RE: u16 = b'R' as u16 * 256 + b'E' as u16;
+
 // Whether n parties, threshold t and packing a are within the bounds.
 pub fn in_bounds(n: u8, t: u8, a: u8) -> bool
     ensures { λ r. ⌜ r ≡ inBounds n t a ⌝ }
@@ -16,13 +41,13 @@ pub fn in_bounds(n: u8, t: u8, a: u8) -> bool
     if a < 1 {
         return false;
     }
-    if 32 < n {
+    if MOST_PARTIES < n {
         return false;
     }
     3 * t as u32 + 2 * a as u32 <= n as u32 + 1
 }
 
-// The committed values of a dealing, and the responses that a signature takes.
+// The quorum (need, in document 01): the committed values of a dealing, and the responses that a signature takes.
 pub fn quorum(t: u8, a: u8) -> u16
     ensures { λ r. ⌜ r ≡ quorum t a ⌝ }
 {
@@ -30,7 +55,7 @@ pub fn quorum(t: u8, a: u8) -> u16
     if 0 < sum { sum - 1 } else { 0 }
 }
 
-// The signatures of a packed slot.
+// b, the signatures of a packed slot.
 pub fn batch(n: u8, t: u8) -> u8
     ensures { λ r. ⌜ r ≡ batch n t ⌝ }
 {
@@ -73,7 +98,7 @@ pub fn word(s: &[u8], at: u16, i: u16) -> u32
     number(s, at as u32 + 4 * i as u32)
 }
 
-// The tag of a record: 1 SU, 2 DE, 3 VE, 4 CH, 5 RE, and 0 for none of these.
+// The tag (mark, in document 01) of a record: 1 SU, 2 DE, 3 VE, 4 CH, 5 RE, and 0 for none of these.
 pub fn tag(s: &[u8]) -> u8
     ensures { λ r. ⌜ r ≡ code (tagOf (now (s .entry))) ⌝ }
 {
@@ -82,11 +107,11 @@ pub fn tag(s: &[u8]) -> u8
     }
     let mark = byte(s, 0) as u16 * 256 + byte(s, 1) as u16;
     match mark {
-        21333 => 1,
-        17477 => 2,
-        22085 => 3,
-        17224 => 4,
-        21061 => 5,
+        SU => 1,
+        DE => 2,
+        VE => 3,
+        CH => 4,
+        RE => 5,
         _ => 0,
     }
 }

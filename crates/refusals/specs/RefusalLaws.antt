@@ -2,17 +2,17 @@
 use mathlib.Core.Path.{_≡_, refl}
 use mathlib.Core.Bool.{true, and-eq-true-iff}
 use mathlib.Core.List.{List}
-use Prim.Native.Nat.{ℕ, _*_, _-_, _^_, _≤_, _<_}
+use Prim.Native.Nat.{ℕ, _^_, _≤_, _<_}
 use native.Mathlib.Omega.{arith}
 use lib.ListN.{length}
 use lib.Dec.{leb}
 use borrow.Author.Tests.{le-leb, ltb-true, lt-ltb, eqb-true, eq-eqb}
-use Rattle.lists.specs.Tests.{and-right, all-at, all-make, require-pass, passed}
+use Rattle.lists.specs.Tests.{and-right, all-at, all-make, require-pass, passed, or-next, next-pass}
 use Rattle.field.specs.Definitions.{isScalar, isElement}
 use Rattle.records.specs.Parameters.{quorum, batch}
 use Rattle.records.specs.Bytes.{byteAt, numberAt, word, sender}
-use Rattle.records.specs.Tags.{setupLength, dealingLength, complaintLength, challengesLength, responseLength, sharesFrom}
-use Rattle.refusals.specs.Refusals.{setupRefusal, dealingRefusal, maskFits, complaintRefusal, challengesRefusal, responseRefusal}
+use Rattle.records.specs.Tags.{setupLength, dealingLength, complaintLength, responseLength, sharesFrom}
+use Rattle.refusals.specs.Refusals.{setupRefusal, headRefusal, dealingRefusal, maskFits, complaintRefusal, responseRefusal}
 use Rattle.records.specs.Laws.{Bounds, bounds-of, bounds-test, party-of, party-test}
 
 -- ---- a setup that is not refused
@@ -46,6 +46,23 @@ setup-passes s h =
     (require-pass _ _ _ (bounds-test (h .bounds))
     (require-pass _ _ _ (all-make _ _ (λ j l. h .elements j (omega arith))) refl)))
 
+-- ---- the head of a dealing, a complaint row or a response row
+
+head-passed : (n size : ℕ) (s : List ℕ) → headRefusal n size s ≡ 0 → (length s ≡ size) × (byteAt s 3 ≡ 0) × (0 < sender s) × (sender s ≤ n)
+unfolding headRefusal
+head-passed n size s e =
+    let p = passed _ _ _ e (omega arith) in
+    let q = passed _ _ _ (p .1) (omega arith) in
+    let i = party-of n (sender s) (passed _ _ _ (q .1) (omega arith) .0) in
+    (eqb-true _ _ (p .0), eqb-true _ _ (q .0), i .0, i .1)
+
+head-passes : (n size : ℕ) (s : List ℕ) → length s ≡ size → byteAt s 3 ≡ 0 → 0 < sender s → sender s ≤ n → headRefusal n size s ≡ 0
+unfolding headRefusal
+head-passes n size s long reserved pos max =
+    require-pass _ _ _ (eq-eqb _ _ long)
+    (require-pass _ _ _ (eq-eqb _ _ reserved)
+    (require-pass _ _ _ (party-test n (sender s) pos max) refl))
+
 -- ---- a dealing that is not refused
 
 pub record PassedDealing (n t a : ℕ) (s : List ℕ) : Type 0 where
@@ -59,29 +76,18 @@ pub record PassedDealing (n t a : ℕ) (s : List ℕ) : Type 0 where
 pub dealing-passed : (n t a : ℕ) (s : List ℕ) → dealingRefusal n t a s ≡ 0 → PassedDealing n t a s
 unfolding dealingRefusal
 dealing-passed n t a s e =
-    let p = passed _ _ _ e (omega arith) in
-    let q = passed _ _ _ (p .1) (omega arith) in
-    let r = passed _ _ _ (q .1) (omega arith) in
-    let v = passed _ _ _ (r .1) (omega arith) in
+    let p = or-next _ _ e in
+    let h = head-passed n _ s (p .0) in
+    let v = passed _ _ _ (p .1) (omega arith) in
     let w = passed _ _ _ (v .1) (omega arith) in
-    let i = party-of n (sender s) (r .0) in
-    record {
-      sender-pos = i .0;
-      sender-max = i .1;
-      elements = all-at _ _ (v .0);
-      scalars = all-at _ _ (w .0);
-      long = eqb-true _ _ (p .0);
-      reserved = eqb-true _ _ (q .0);
-    }
+    record { sender-pos = h .2; sender-max = h .3; elements = all-at _ _ (v .0); scalars = all-at _ _ (w .0); long = h .0; reserved = h .1 }
 
 pub dealing-passes : (n t a : ℕ) (s : List ℕ) → PassedDealing n t a s → dealingRefusal n t a s ≡ 0
 unfolding dealingRefusal
 dealing-passes n t a s h =
-    require-pass _ _ _ (eq-eqb _ _ (h .long))
-    (require-pass _ _ _ (eq-eqb _ _ (h .reserved))
-    (require-pass _ _ _ (party-test n (sender s) (h .sender-pos) (h .sender-max))
+    next-pass _ _ (head-passes n _ s (h .long) (h .reserved) (h .sender-pos) (h .sender-max))
     (require-pass _ _ _ (all-make _ _ (h .elements))
-    (require-pass _ _ _ (all-make _ _ (h .scalars)) refl))))
+    (require-pass _ _ _ (all-make _ _ (h .scalars)) refl))
 
 -- ---- a complaint row that is not refused
 
@@ -95,44 +101,16 @@ pub record PassedComplaint (n : ℕ) (s : List ℕ) : Type 0 where
 pub complaint-passed : (n : ℕ) (s : List ℕ) → complaintRefusal n s ≡ 0 → PassedComplaint n s
 unfolding complaintRefusal maskFits
 complaint-passed n s e =
-    let p = passed _ _ _ e (omega arith) in
-    let q = passed _ _ _ (p .1) (omega arith) in
-    let r = passed _ _ _ (q .1) (omega arith) in
-    let v = passed _ _ _ (r .1) (omega arith) in
-    let i = party-of n (sender s) (r .0) in
-    record { sender-pos = i .0; sender-max = i .1; mask = ltb-true _ _ (v .0); long = eqb-true _ _ (p .0); reserved = eqb-true _ _ (q .0) }
+    let p = or-next _ _ e in
+    let h = head-passed n _ s (p .0) in
+    let v = passed _ _ _ (p .1) (omega arith) in
+    record { sender-pos = h .2; sender-max = h .3; mask = ltb-true _ _ (v .0); long = h .0; reserved = h .1 }
 
 pub complaint-passes : (n : ℕ) (s : List ℕ) → PassedComplaint n s → complaintRefusal n s ≡ 0
 unfolding complaintRefusal maskFits
 complaint-passes n s h =
-    require-pass _ _ _ (eq-eqb _ _ (h .long))
-    (require-pass _ _ _ (eq-eqb _ _ (h .reserved))
-    (require-pass _ _ _ (party-test n (sender s) (h .sender-pos) (h .sender-max))
-    (require-pass _ _ _ (lt-ltb _ _ (h .mask)) refl)))
-
--- ---- challenges that are not refused
-
-pub record PassedChallenges (n t a : ℕ) (s : List ℕ) : Type 0 where
-  pub scalars : (x : ℕ) → x < a * batch n t → isScalar (word s 4 x) ≡ true
-  pub long : length s ≡ challengesLength n t a
-  pub reserved2 : byteAt s 2 ≡ 0
-  pub reserved3 : byteAt s 3 ≡ 0
-
-pub challenges-passed : (n t a : ℕ) (s : List ℕ) → challengesRefusal n t a s ≡ 0 → PassedChallenges n t a s
-unfolding challengesRefusal
-challenges-passed n t a s e =
-    let p = passed _ _ _ e (omega arith) in
-    let q = passed _ _ _ (p .1) (omega arith) in
-    let r = passed _ _ _ (q .1) (omega arith) in
-    let both = and-eq-true-iff _ _ .0 (q .0) in
-    record { scalars = all-at _ _ (r .0); long = eqb-true _ _ (p .0); reserved2 = eqb-true _ _ (both .0); reserved3 = eqb-true _ _ (both .1) }
-
-pub challenges-passes : (n t a : ℕ) (s : List ℕ) → PassedChallenges n t a s → challengesRefusal n t a s ≡ 0
-unfolding challengesRefusal
-challenges-passes n t a s h =
-    require-pass _ _ _ (eq-eqb _ _ (h .long))
-    (require-pass _ _ _ (and-eq-true-iff _ _ .1 (eq-eqb _ _ (h .reserved2), eq-eqb _ _ (h .reserved3)))
-    (require-pass _ _ _ (all-make _ _ (h .scalars)) refl))
+    next-pass _ _ (head-passes n _ s (h .long) (h .reserved) (h .sender-pos) (h .sender-max))
+    (require-pass _ _ _ (lt-ltb _ _ (h .mask)) refl)
 
 -- ---- a response row that is not refused
 
@@ -146,17 +124,13 @@ pub record PassedResponse (n t : ℕ) (s : List ℕ) : Type 0 where
 pub response-passed : (n t : ℕ) (s : List ℕ) → responseRefusal n t s ≡ 0 → PassedResponse n t s
 unfolding responseRefusal
 response-passed n t s e =
-    let p = passed _ _ _ e (omega arith) in
-    let q = passed _ _ _ (p .1) (omega arith) in
-    let r = passed _ _ _ (q .1) (omega arith) in
-    let v = passed _ _ _ (r .1) (omega arith) in
-    let i = party-of n (sender s) (r .0) in
-    record { sender-pos = i .0; sender-max = i .1; scalars = all-at _ _ (v .0); long = eqb-true _ _ (p .0); reserved = eqb-true _ _ (q .0) }
+    let p = or-next _ _ e in
+    let h = head-passed n _ s (p .0) in
+    let v = passed _ _ _ (p .1) (omega arith) in
+    record { sender-pos = h .2; sender-max = h .3; scalars = all-at _ _ (v .0); long = h .0; reserved = h .1 }
 
 pub response-passes : (n t : ℕ) (s : List ℕ) → PassedResponse n t s → responseRefusal n t s ≡ 0
 unfolding responseRefusal
 response-passes n t s h =
-    require-pass _ _ _ (eq-eqb _ _ (h .long))
-    (require-pass _ _ _ (eq-eqb _ _ (h .reserved))
-    (require-pass _ _ _ (party-test n (sender s) (h .sender-pos) (h .sender-max))
-    (require-pass _ _ _ (all-make _ _ (h .scalars)) refl)))
+    next-pass _ _ (head-passes n _ s (h .long) (h .reserved) (h .sender-pos) (h .sender-max))
+    (require-pass _ _ _ (all-make _ _ (h .scalars)) refl)

@@ -1,11 +1,11 @@
 -- What is refused from the input alone, by kind of record (document 01, "From the input"): the refusal's number, or 0. Each number is asked of
--- the whole record before the next one.
+-- the whole record before the next one. A reserved byte is a spare one of document 01.
 use Prim.Native.Nat.{ℕ, _+_, _*_, _^_}
 use mathlib.Core.Bool.{Bool, _&&_}
 use mathlib.Core.List.{List}
 use lib.ListN.{length}
 use lib.Dec.{eqb, ltb, leb}
-use Rattle.lists.specs.Tests.{allTo, require}
+use Rattle.lists.specs.Tests.{allTo, require, orNext}
 use Rattle.field.specs.Definitions.{isScalar, isElement}
 use Rattle.records.specs.Parameters.{inBounds, quorum, batch, isParty}
 use Rattle.records.specs.Bytes.{byteAt, numberAt, word, sender}
@@ -19,26 +19,29 @@ setupRefusal s =
     (require (inBounds (byteAt s 2) (byteAt s 3) (byteAt s 4)) 4
     (require (allTo (byteAt s 3 + 1) (λ j. isElement (word s 6 j))) 7 0)))
 
+-- the head of DE, VE and RE alike: the length, the reserved byte, the dealer or holder
+unfoldable pub headRefusal : ℕ → ℕ → List ℕ → ℕ
+headRefusal n size s =
+    require (eqb (length s) size) 2
+    (require (eqb (byteAt s 3) 0) 3
+    (require (isParty n (sender s)) 5 0))
+
 -- DE: dealer, reserved; the committed values; n shares
 unfoldable pub dealingRefusal : ℕ → ℕ → ℕ → List ℕ → ℕ
 dealingRefusal n t a s =
-    require (eqb (length s) (dealingLength n t a)) 2
-    (require (eqb (byteAt s 3) 0) 3
-    (require (isParty n (sender s)) 5
+    orNext (headRefusal n (dealingLength n t a) s)
     (require (allTo (quorum t a) (λ v. isElement (word s 4 v))) 7
-    (require (allTo n (λ j. isScalar (word s (sharesFrom t a) j))) 6 0))))
+    (require (allTo n (λ j. isScalar (word s (sharesFrom t a) j))) 6 0))
 
 -- a mask has no bit above bit n - 1
 unfoldable pub maskFits : ℕ → ℕ → Bool
 maskFits n mask = ltb mask (2 ^ n)
 
--- VE: holder, reserved; the mask of the blamed dealers
+-- VE, a complaint row (verdict): holder, reserved; the mask of the blamed dealers
 unfoldable pub complaintRefusal : ℕ → List ℕ → ℕ
 complaintRefusal n s =
-    require (eqb (length s) (complaintLength n)) 2
-    (require (eqb (byteAt s 3) 0) 3
-    (require (isParty n (sender s)) 5
-    (require (maskFits n (numberAt s 4)) 8 0)))
+    orNext (headRefusal n (complaintLength n) s)
+    (require (maskFits n (numberAt s 4)) 8 0)
 
 -- CH: two reserved; the challenges
 unfoldable pub challengesRefusal : ℕ → ℕ → ℕ → List ℕ → ℕ
@@ -50,7 +53,5 @@ challengesRefusal n t a s =
 -- RE: holder, reserved; b response numbers
 unfoldable pub responseRefusal : ℕ → ℕ → List ℕ → ℕ
 responseRefusal n t s =
-    require (eqb (length s) (responseLength n t)) 2
-    (require (eqb (byteAt s 3) 0) 3
-    (require (isParty n (sender s)) 5
-    (require (allTo (batch n t) (λ x. isScalar (word s 4 x))) 6 0)))
+    orNext (headRefusal n (responseLength n t) s)
+    (require (allTo (batch n t) (λ x. isScalar (word s 4 x))) 6 0)

@@ -2,11 +2,13 @@
 ghost use mathlib.Core.Path.{_≡_};
 ghost use Rattle.lists.specs.Tests.{allTo};
 ghost use Rattle.field.specs.Definitions.{isScalar, isElement};
-ghost use Rattle.records.specs.Parameters.{quorum, batch};
 ghost use Rattle.records.specs.Bytes.{word};
-ghost use Rattle.refusals.specs.Refusals.{maskFits, setupRefusal, dealingRefusal, complaintRefusal, challengesRefusal, responseRefusal};
+ghost use Rattle.refusals.specs.Refusals.{maskFits, setupRefusal, headRefusal, dealingRefusal, complaintRefusal, challengesRefusal, responseRefusal};
 use field::Element;
 use field::Scalar;
+
+// The highest bit of a mask of four bytes.
+const LAST_BIT: u8 = 31;
 
 // Whether the count numbers from a place on are all elements.
 pub fn all_elements(s: &[u8], at: u16, count: u16) -> bool
@@ -36,7 +38,7 @@ pub fn all_scalars(s: &[u8], at: u16, count: u16) -> bool
 pub fn mask_fits(n: u8, mask: u32) -> bool
     ensures { λ r. ⌜ r ≡ maskFits n mask ⌝ }
 {
-    if 31 < n {
+    if LAST_BIT < n {
         return true;
     }
     (mask as u64) < (1u64 << n)
@@ -65,11 +67,11 @@ pub fn setup_refusal(s: &[u8]) -> u8
     0
 }
 
-// The refusal of a dealing from its bytes and the parameters, or 0.
-pub fn dealing_refusal(n: u8, t: u8, a: u8, s: &[u8]) -> u8
-    ensures { λ r. ⌜ r ≡ dealingRefusal n t a (now (s .entry)) ⌝ }
+// The refusal of what a dealing, a complaint row and a response row begin with, or 0: the length, the reserved (spare) byte, the sender.
+fn head_refusal(n: u8, s: &[u8], size: usize) -> u8
+    ensures { λ r. ⌜ r ≡ headRefusal n size (now (s .entry)) ⌝ }
 {
-    if s.len() != records::dealing_length(n, t, a) {
+    if s.len() != size {
         return 2;
     }
     if records::byte(s, 3) != 0 {
@@ -77,6 +79,17 @@ pub fn dealing_refusal(n: u8, t: u8, a: u8, s: &[u8]) -> u8
     }
     if !records::is_party(n, records::byte(s, 2)) {
         return 5;
+    }
+    0
+}
+
+// The refusal of a dealing from its bytes and the parameters, or 0.
+pub fn dealing_refusal(n: u8, t: u8, a: u8, s: &[u8]) -> u8
+    ensures { λ r. ⌜ r ≡ dealingRefusal n t a (now (s .entry)) ⌝ }
+{
+    let number = head_refusal(n, s, records::dealing_length(n, t, a));
+    if number != 0 {
+        return number;
     }
     if !all_elements(s, 4, records::quorum(t, a)) {
         return 7;
@@ -87,18 +100,13 @@ pub fn dealing_refusal(n: u8, t: u8, a: u8, s: &[u8]) -> u8
     0
 }
 
-// The refusal of a complaint row, or 0.
+// The refusal of a complaint row (verdict), or 0.
 pub fn complaint_refusal(n: u8, s: &[u8]) -> u8
     ensures { λ r. ⌜ r ≡ complaintRefusal n (now (s .entry)) ⌝ }
 {
-    if s.len() != records::complaint_length(n) {
-        return 2;
-    }
-    if records::byte(s, 3) != 0 {
-        return 3;
-    }
-    if !records::is_party(n, records::byte(s, 2)) {
-        return 5;
+    let number = head_refusal(n, s, records::complaint_length(n));
+    if number != 0 {
+        return number;
     }
     if !mask_fits(n, records::number(s, 4)) {
         return 8;
@@ -129,14 +137,9 @@ pub fn challenges_refusal(n: u8, t: u8, a: u8, s: &[u8]) -> u8
 pub fn response_refusal(n: u8, t: u8, s: &[u8]) -> u8
     ensures { λ r. ⌜ r ≡ responseRefusal n t (now (s .entry)) ⌝ }
 {
-    if s.len() != records::response_length(n, t) {
-        return 2;
-    }
-    if records::byte(s, 3) != 0 {
-        return 3;
-    }
-    if !records::is_party(n, records::byte(s, 2)) {
-        return 5;
+    let number = head_refusal(n, s, records::response_length(n, t));
+    if number != 0 {
+        return number;
     }
     if !all_scalars(s, 4, records::batch(n, t) as u16) {
         return 6;

@@ -9,7 +9,7 @@ use Rattle.sets.specs.Masks.{has, insert, members}
 use Rattle.field.specs.declared.Scalar.{Scalar}
 use Rattle.field.specs.Definitions.{scalar}
 use Rattle.interpolation.specs.Definitions.{party, slot, scalarAt}
-use Rattle.records.specs.Parameters.{batch}
+use Rattle.records.specs.Parameters.{places, batch}
 use Rattle.records.specs.Bytes.{word, sender}
 use Rattle.refusals.specs.Refusals.{responseRefusal}
 use Rattle.protocol.specs.Transcript.{Transcript, passes}
@@ -38,7 +38,7 @@ transcript setup d c challenges =
 -- ---- the response rows
 
 unfoldable pub noResponses : Responses
-noResponses = record { count = 0; responders = 0; numbers = filled 1024 (scalar 0) }
+noResponses = record { count = 0; responders = 0; numbers = filled places (scalar 0) }
 
 -- the refusal of an RE at stage 4: 12, then 14, then 15, after those from the input
 unfoldable pub responseNumber : Setup → Dealings → Complaints → List Scalar → Responses → List ℕ → ℕ

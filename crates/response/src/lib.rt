@@ -19,35 +19,39 @@ use dealing::Setup;
 use field::Element;
 use field::Scalar;
 use interpolation::Basis;
+use records::CELLS;
+use records::PLACES;
+use records::STRIDE;
 
-// The accepted response rows. Holder j's numbers stand from (j - 1) × 32.
+// The accepted response rows. Holder j's numbers stand from (j - 1) × STRIDE.
 pub struct Responses {
     pub count: u8,
     pub responders: u64,
-    pub numbers: [Scalar; 1024],
+    pub numbers: [Scalar; PLACES],
 }
 
 // The list with a record's challenges.
-pub fn load_challenges(list: [Scalar; 512], bytes: &[u8], count: u16) -> [Scalar; 512]
+pub fn load_challenges(list: [Scalar; CELLS], bytes: &[u8], count: u16) -> [Scalar; CELLS]
     ensures { λ r. ⌜ r ≡ stored list 0 count (λ x. scalar (word (now (bytes .entry)) 4 x)) ⌝ }
 {
     let mut next = list;
     for x in 0..count {
-        if x < 512 {
-            next[x as usize] = Scalar(records::word(bytes, 4, x));
+        let at = x as usize;
+        if at < CELLS {
+            next[at] = Scalar(records::word(bytes, 4, x));
         }
     }
     next
 }
 
 // The list with a row's response numbers from a place on.
-fn load_numbers(list: [Scalar; 1024], base: u16, bytes: &[u8], count: u16) -> [Scalar; 1024]
+fn load_numbers(list: [Scalar; PLACES], base: u16, bytes: &[u8], count: u16) -> [Scalar; PLACES]
     ensures { λ r. ⌜ r ≡ stored list base count (λ x. scalar (word (now (bytes .entry)) 4 x)) ⌝ }
 {
     let mut next = list;
     for x in 0..count {
         let at = base as usize + x as usize;
-        if at < 1024 {
+        if at < PLACES {
             next[at] = Scalar(records::word(bytes, 4, x));
         }
     }
@@ -59,7 +63,7 @@ fn row_passes(
     setup: Setup,
     dealings: Dealings,
     complaints: Complaints,
-    challenges: [Scalar; 512],
+    challenges: [Scalar; CELLS],
     bytes: &[u8],
 ) -> bool
     requires { ⌜ inBounds (setup .n) (setup .t) (setup .a) ≡ true ⌝ }
@@ -123,7 +127,7 @@ impl Responses {
         setup: Setup,
         dealings: Dealings,
         complaints: Complaints,
-        challenges: [Scalar; 512],
+        challenges: [Scalar; CELLS],
         bytes: &[u8],
     ) -> u8
         requires { ⌜ inBounds (setup .n) (setup .t) (setup .a) ≡ true ⌝ }
@@ -152,10 +156,10 @@ impl Responses {
         ensures { λ r. ⌜ r ≡ withResponse setup self (now (bytes .entry)) ⌝ }
     {
         let j = records::byte(bytes, 2);
-        let before = if 0 < j { j - 1 } else { 0 };
+        let before = arrays::predecessor(j);
         let list = self.numbers;
         let count = records::batch(setup.n, setup.t) as u16;
-        let numbers = load_numbers(list, before as u16 * 32, bytes, count);
+        let numbers = load_numbers(list, before as u16 * STRIDE as u16, bytes, count);
         let answers = self.count + 1;
         Responses {
             count: answers,
@@ -177,7 +181,7 @@ impl Responses {
     }
 
     // The list with every φ, u outer.
-    pub fn signatures(self, setup: Setup, list: [Scalar; 512]) -> [Scalar; 512]
+    pub fn signatures(self, setup: Setup, list: [Scalar; CELLS]) -> [Scalar; CELLS]
         requires { ⌜ inBounds (setup .n) (setup .t) (setup .a) ≡ true ⌝ }
         ensures { λ r. ⌜ r ≡ signaturesOf setup self list ⌝ }
     {

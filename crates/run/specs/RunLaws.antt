@@ -6,8 +6,7 @@ use native.Mathlib.Decide.{ℕ-discrete}
 use mathlib.Core.Path.{_≡_, refl, sym, ap, _∙_}
 use mathlib.Core.Bool.{Bool, true, false, and-eq-true-iff}
 use Prim.Native.Nat.{ℕ, _≤_, _<_}
-use lib.Dec.{eqb}
-use Rattle.lists.specs.Tests.{pick, pick-case}
+use Rattle.lists.specs.Tests.{pick}
 use Rattle.records.specs.Laws.{Bounds, bounds-of, bounds-test}
 use Rattle.run.specs.declared.Run.{Run}
 use Rattle.run.specs.Runs.{wellFormed, stageOf}
@@ -67,10 +66,3 @@ stage-live r g e p l = go (ℕ-discrete (r .stage) 0) (wellFormed r) refl
     go (yes z) b w = absurd (omega (arith, stage-none r z))
     go (no ne) true w = (sym (stage-of-formed r w) ∙ e, w)
     go (no ne) false w = absurd (omega (arith, stage-past r ne ∙ ap (λ (b : Bool). pick b (r .stage) 6) w))
-
--- no run is at a stage above 6
-pub stage-most : (r : Run) → stageOf r ≤ 6
-unfolding stageOf
-stage-most r =
-    pick-case (λ (g : ℕ). g ≤ 6) (eqb (r .stage) 0) 0 (pick (wellFormed r) (r .stage) 6) (λ e. omega arith)
-    (λ e. pick-case (λ (g : ℕ). g ≤ 6) (wellFormed r) (r .stage) 6 (λ w. formed-of r w .stage-max) (λ w. omega arith))

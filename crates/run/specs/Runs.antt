@@ -8,31 +8,54 @@ use Rattle.lists.specs.Tests.{pick}
 use Rattle.lists.specs.Stores.{filled}
 use Rattle.field.specs.declared.Scalar.{Scalar}
 use Rattle.field.specs.Definitions.{scalar}
-use Rattle.records.specs.Parameters.{inBounds}
+use Rattle.records.specs.Parameters.{cells, inBounds}
 use Rattle.protocol.specs.Transcript.{Transcript}
 use Rattle.arrays.specs.Arrays.{cell}
 use Rattle.dealing.specs.declared.Setup.{Setup}
+use Rattle.dealing.specs.declared.Dealings.{Dealings}
+use Rattle.complaint.specs.declared.Complaints.{Complaints}
+use Rattle.response.specs.declared.Responses.{Responses}
 use Rattle.dealing.specs.Definitions.{noSetup, noDealings}
 use Rattle.complaint.specs.Definitions.{noComplaints}
 use Rattle.response.specs.Definitions.{transcript, noResponses}
 use Rattle.run.specs.declared.Run.{Run}
 
--- ---- a fresh run: stage 0 and every list empty
+-- ---- a run from its parts, and with the stage and one part replaced
 
-unfoldable pub noScalars : List Scalar
-noScalars = filled 512 (scalar 0)
-
-unfoldable pub begun : ℕ → Setup → Run
-begun stage setup =
+abbrev pub assembled : ℕ → Setup → Dealings → Complaints → List Scalar → Responses → List Scalar → Run
+assembled stage setup dealings complaints challenges responses signatures =
     record {
       stage = stage;
       setup = setup;
-      dealings = noDealings;
-      complaints = noComplaints;
-      challenges = noScalars;
-      responses = noResponses;
-      signatures = noScalars;
+      dealings = dealings;
+      complaints = complaints;
+      challenges = challenges;
+      responses = responses;
+      signatures = signatures;
     }
+
+abbrev pub setDealings : Run → ℕ → Dealings → Run
+setDealings r stage x = assembled stage (r .setup) x (r .complaints) (r .challenges) (r .responses) (r .signatures)
+
+abbrev pub setComplaints : Run → ℕ → Complaints → Run
+setComplaints r stage x = assembled stage (r .setup) (r .dealings) x (r .challenges) (r .responses) (r .signatures)
+
+abbrev pub setChallenges : Run → ℕ → List Scalar → Run
+setChallenges r stage x = assembled stage (r .setup) (r .dealings) (r .complaints) x (r .responses) (r .signatures)
+
+abbrev pub setResponses : Run → ℕ → Responses → Run
+setResponses r stage x = assembled stage (r .setup) (r .dealings) (r .complaints) (r .challenges) x (r .signatures)
+
+abbrev pub setSignatures : Run → ℕ → List Scalar → Run
+setSignatures r stage x = assembled stage (r .setup) (r .dealings) (r .complaints) (r .challenges) (r .responses) x
+
+-- ---- a fresh run: stage 0 and every list empty
+
+unfoldable pub noScalars : List Scalar
+noScalars = filled cells (scalar 0)
+
+unfoldable pub begun : ℕ → Setup → Run
+begun stage setup = assembled stage setup noDealings noComplaints noScalars noResponses noScalars
 
 unfoldable pub fresh : Run
 fresh = begun 0 noSetup

@@ -45,8 +45,5 @@ pub answered-case : (P : Reply → Type 0) (r : Run) (k : ℕ) (next : Run)
 answered-case P r k next taken not =
     pick-case P (eqb k 0) (record { run = next; number = 0 }) (refused r k) (λ e. taken (eqb-true _ _ e)) (λ e. not (eqb-false _ _ e))
 
-pub answered-pass : (r : Run) (k : ℕ) (next : Run) → k ≡ 0 → answered r k next ≡ record { run = next; number = 0 }
-answered-pass r k next e = rw (eq-eqb k 0 e)
-
 pub answered-number : (r : Run) (k : ℕ) (next : Run) → answered r k next .number ≡ k
 answered-number r k next = answered-case (λ (y : Reply). y .number ≡ k) r k next (λ e. sym e) (λ e. refl)

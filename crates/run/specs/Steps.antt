@@ -16,7 +16,7 @@ use Rattle.run.specs.declared.Run.{Run}
 use Rattle.run.specs.declared.Reply.{Reply}
 use Rattle.run.specs.declared.Handler.{Handler}
 use Rattle.run.specs.declared.Handler.the-variants.{TakeSetup, TakeDealing, TakeComplaint, TakeChallenges, TakeResponse, Refuse}
-use Rattle.run.specs.Runs.{begun, fresh, stageOf}
+use Rattle.run.specs.Runs.{setDealings, setComplaints, setChallenges, setResponses, setSignatures, begun, fresh, stageOf}
 
 -- ---- SU, at stage 0
 
@@ -27,71 +27,31 @@ afterSetup s = begun 1 (setupOf s)
 
 unfoldable pub afterDealing : Run → List ℕ → Run
 afterDealing r s =
-    record {
-      stage = pick (eqb (r .dealings .count + 1) (r .setup .n - r .setup .t)) 2 1;
-      setup = r .setup;
-      dealings = withDealing (r .setup) (r .dealings) s;
-      complaints = r .complaints;
-      challenges = r .challenges;
-      responses = r .responses;
-      signatures = r .signatures;
-    }
+    let stage : ℕ = pick (eqb (r .dealings .count + 1) (r .setup .n - r .setup .t)) 2 1 in
+    setDealings r stage (withDealing (r .setup) (r .dealings) s)
 
 -- ---- VE, at stage 2: after n-t accepted, stage 3 or 6
 
 unfoldable pub afterComplaint : Run → List ℕ → Run
 afterComplaint r s =
-    record {
-      stage = complaintStage (r .setup) (withComplaint (r .complaints) s);
-      setup = r .setup;
-      dealings = r .dealings;
-      complaints = withComplaint (r .complaints) s;
-      challenges = r .challenges;
-      responses = r .responses;
-      signatures = r .signatures;
-    }
+    let rows = withComplaint (r .complaints) s in
+    setComplaints r (complaintStage (r .setup) rows) rows
 
 -- ---- CH, at stage 3: then 4
 
 unfoldable pub afterChallenges : Run → List ℕ → Run
 afterChallenges r s =
-    record {
-      stage = 4;
-      setup = r .setup;
-      dealings = r .dealings;
-      complaints = r .complaints;
-      challenges = stored (r .challenges) 0 (r .setup .a * batch (r .setup .n) (r .setup .t)) (λ x. scalar (word s 4 x));
-      responses = r .responses;
-      signatures = r .signatures;
-    }
+    setChallenges r 4 (stored (r .challenges) 0 (r .setup .a * batch (r .setup .n) (r .setup .t)) (λ x. scalar (word s 4 x)))
 
 -- ---- RE, at stage 4: after need accepted, stage 5
 
 -- the run with one more row
 unfoldable pub withRow : Run → List ℕ → Run
-withRow r s =
-    record {
-      stage = 4;
-      setup = r .setup;
-      dealings = r .dealings;
-      complaints = r .complaints;
-      challenges = r .challenges;
-      responses = withResponse (r .setup) (r .responses) s;
-      signatures = r .signatures;
-    }
+withRow r s = setResponses r 4 (withResponse (r .setup) (r .responses) s)
 
 -- done: every φ is worked out
 unfoldable pub finished : Run → Run
-finished r =
-    record {
-      stage = 5;
-      setup = r .setup;
-      dealings = r .dealings;
-      complaints = r .complaints;
-      challenges = r .challenges;
-      responses = r .responses;
-      signatures = signaturesOf (r .setup) (r .responses) (r .signatures);
-    }
+finished r = setSignatures r 5 (signaturesOf (r .setup) (r .responses) (r .signatures))
 
 unfoldable pub afterResponse : Run → List ℕ → Run
 afterResponse r s =

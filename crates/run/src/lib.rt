@@ -15,6 +15,9 @@ use dealing::Dealings;
 use dealing::Setup;
 use field::Element;
 use field::Scalar;
+use records::CELLS;
+use records::PARTIES;
+use records::PLACES;
 use response::Responses;
 
 // The run. The challenges and, at stage 5, the signatures stand u outer, k inner.
@@ -23,9 +26,9 @@ pub struct Run {
     pub setup: Setup,
     pub dealings: Dealings,
     pub complaints: Complaints,
-    pub challenges: [Scalar; 512],
+    pub challenges: [Scalar; CELLS],
     pub responses: Responses,
-    pub signatures: [Scalar; 512],
+    pub signatures: [Scalar; CELLS],
 }
 
 // What a record gets: the next run and 0, or the run as it was and the refusal's number.
@@ -84,21 +87,21 @@ impl Run {
             dealings: Dealings {
                 count: 0,
                 dealers: 0,
-                commitments: [Element::ONE; 1024],
-                wrong: [0; 32],
+                commitments: [Element::ONE; PLACES],
+                wrong: [0; PARTIES],
             },
             complaints: Complaints {
                 count: 0,
                 holders: 0,
-                masks: [0; 32],
+                masks: [0; PARTIES],
             },
-            challenges: [Scalar::ZERO; 512],
+            challenges: [Scalar::ZERO; CELLS],
             responses: Responses {
                 count: 0,
                 responders: 0,
-                numbers: [Scalar::ZERO; 1024],
+                numbers: [Scalar::ZERO; PLACES],
             },
-            signatures: [Scalar::ZERO; 512],
+            signatures: [Scalar::ZERO; CELLS],
         }
     }
 
@@ -112,7 +115,7 @@ impl Run {
                 n: 0,
                 t: 0,
                 a: 0,
-                key: [Element::ONE; 32],
+                key: [Element::ONE; PARTIES],
             },
         )
     }

@@ -1,14 +1,12 @@
 -- Laws of the bits of a mask.
 -- Assumes nothing.
 use mathlib.Core.Path.{_≡_, refl, sym, ap, _∙_}
-use mathlib.Core.Bool.{false, not, _&&_, _||_, true≢false, false≢true}
+use mathlib.Core.Bool.{false, not, _&&_, _||_}
 use Prim.Native.Nat.{ℕ, zero, suc, _-_, _/_, _%_, _^_, _≤_, _<_, min, max}
 use native.Mathlib.Omega.{arith}
 use native.Mathlib.Nat.{pow-suc, mul-comm, div-one, div-div-eq-div-mul}
-use lib.Arith.{bin-ind}
 use lib.Bits.{bitAnd, bitOr, and-step, and-le-l, or-step}
 use lib.Dec.{eqb, eqb·zero-suc, eqb·suc-zero, eqb·suc-suc}
-use borrow.Author.Tests.{eqb-false}
 use Rattle.sets.specs.Masks.{bit, minus}
 
 -- what holds of the four pairs of digit-pairs
@@ -74,30 +72,3 @@ bit-high zero zero m l h = let z : m ≡ 0 = omega arith in ap (λ (x : ℕ). eq
 bit-high zero (suc i) m l h = let z : m / 2 ≡ 0 = omega arith in ap (λ (x : ℕ). bit x i) z ∙ bit-zero i
 bit-high (suc k) zero m l h = absurd (omega arith)
 bit-high (suc k) (suc i) m l h = bit-high k i (m / 2) (omega (arith, pow-suc 2 k)) (omega arith)
-
-no-bits : (m : ℕ) → ((i : ℕ) → bit m i ≡ false) → m ≡ 0
-unfolding bit
-no-bits =
-    bin-ind (λ (m : ℕ). ((i : ℕ) → bit m i ≡ false) → m ≡ 0) (λ h. refl)
-    (λ m ih h.
-    let high : m / 2 ≡ 0 = ih (λ i. h (suc i)) in
-    let low : m % 2 ≡ 1 → ⊥ = eqb-false (m % 2) 1 (h 0) in
-    omega arith)
-
--- and the other way round
-pub bits-lt : (k m : ℕ) → ((i : ℕ) → k ≤ i → bit m i ≡ false) → m < 2 ^ k
-unfolding bit
-bits-lt zero m h = let z : m ≡ 0 = no-bits m (λ i. h i (omega arith)) in omega arith
-bits-lt (suc k) m h = let l : m / 2 < 2 ^ k = bits-lt k (m / 2) (λ i b. h (suc i) (omega arith)) in omega (arith, pow-suc 2 k)
-
-same-digit : (x y : ℕ) → x < 2 → y < 2 → eqb x 1 ≡ eqb y 1 → x ≡ y
-same-digit = digit-pairs (λ x y. eqb x 1 ≡ eqb y 1 → x ≡ y) (λ e. refl) (λ e. absurd (false≢true e)) (λ e. absurd (true≢false e)) (λ e. refl)
-
--- a mask is its bits
-pub bits-ext : (k a b : ℕ) → a < 2 ^ k → b < 2 ^ k → ((i : ℕ) → i < k → bit a i ≡ bit b i) → a ≡ b
-unfolding bit
-bits-ext zero a b x y h = omega arith
-bits-ext (suc k) a b x y h =
-    let high : a / 2 ≡ b / 2 = bits-ext k (a / 2) (b / 2) (omega (arith, pow-suc 2 k)) (omega (arith, pow-suc 2 k)) (λ i l. h (suc i) (omega arith)) in
-    let low : a % 2 ≡ b % 2 = same-digit (a % 2) (b % 2) (omega arith) (omega arith) (h 0 (omega arith)) in
-    omega arith

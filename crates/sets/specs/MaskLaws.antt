@@ -7,13 +7,12 @@ use native.Mathlib.Omega.{arith}
 use native.Mathlib.Nat.{pow-suc, one-mul, add-zero}
 use native.Mathlib.Numerals.{add-one}
 use native.Mathlib.Decide.{ℕ-discrete, decLe}
-use lib.Pow.{pow-lt}
-use lib.Bits.{bitOr, or-lt, or-shifted-r}
+use lib.Bits.{bitOr, or-shifted-r}
 use lib.Dec.{eqb, leb, eqb·zero-suc, eqb·suc-suc}
 use borrow.Author.Tests.{eq-eqb, ne-eqb, le-leb, lt-leb}
 use Rattle.lists.specs.Tests.{pick, pick-case, pick-map, no-both}
 use Rattle.sets.specs.Masks.{bit, has, insert, minus, maskOf}
-use Rattle.sets.specs.BitLaws.{bit-or, bit-minus, bit-zero, bit-pow, bit-is, bit-high, bits-lt, bits-ext}
+use Rattle.sets.specs.BitLaws.{bit-or, bit-minus, bit-zero, bit-pow, bit-is, bit-high}
 
 -- ---- members
 
@@ -82,33 +81,6 @@ has-le m n i l e = go (decLe i n)
     go : Dec (i ≤ n) → i ≤ n
     go (yes h) = h
     go (no h) = absurd (no-both e (has-above m n i l (omega arith)))
-
--- and the other way round
-pub has-lt : (m n : ℕ) → ((i : ℕ) → n < i → has m i ≡ false) → m < 2 ^ n
-has-lt m n h = bits-lt n m (λ i l. sym (has-bit m i) ∙ h (suc i) (omega arith))
-
--- a set is its members
-pub mask-ext : (n a b : ℕ) → a < 2 ^ n → b < 2 ^ n → ((i : ℕ) → 0 < i → i ≤ n → has a i ≡ has b i) → a ≡ b
-mask-ext n a b x y h = bits-ext n a b x y (λ i l. sym (has-bit a i) ∙ h (suc i) (omega arith) l ∙ has-bit b i)
-
-insert-under : (n m i : ℕ) → (i ≤ 64 → i ≤ n) → m < 2 ^ n → insert m i < 2 ^ n
-insert-under n m zero h l = rw insert-zero l
-insert-under n m (suc i) h l = go (decLe (suc i) 64)
-  where
-    go : Dec (suc i ≤ 64) → insert m (suc i) < 2 ^ n
-    go (yes b) = rw (insert-bit m i b) (or-lt n m (2 ^ i) l (pow-lt (h b)))
-    go (no b) = rw (insert-above m (suc i) (omega arith)) l
-
--- a party up to n keeps the mask below 2 ^ n
-pub insert-below : (n m i : ℕ) → i ≤ n → m < 2 ^ n → insert m i < 2 ^ n
-insert-below n m i h l = insert-under n m i (λ b. h) l
-
-pub insert-lt : (m i : ℕ) → m < 2 ^ 64 → insert m i < 2 ^ 64
-insert-lt m i l = insert-under 64 m i (λ b. b) l
-
-pub minus-le : (a b : ℕ) → minus a b ≤ a
-unfolding minus
-minus-le a b = omega arith
 
 -- ---- the set of those that pass a test
 

@@ -13,7 +13,7 @@ use Rattle.lists.specs.Tests.{pick, pick-case}
 use Rattle.sets.specs.Masks.{has, members}
 use Rattle.sets.specs.MemberLaws.{count-le}
 use Rattle.text.specs.Texts.{Wrote}
-use Rattle.text.specs.Lines.{decimalTo, decimal, field, fields, line, setText, setLine}
+use Rattle.text.specs.Lines.{space, dash, nought, decimalTo, decimal, field, fields, line, setText, setLine}
 
 -- ---- decimals
 
@@ -22,12 +22,12 @@ pub digits-more : (f n : ℕ) → n < 10 ^ suc f → decimalTo (suc (suc f)) n �
 unfolding decimalTo
 digits-more zero n h = rw (lt-ltb n 10 (omega arith))
 digits-more (suc f) n h =
-    ap (λ (l : List ℕ). pick (ltb n 10) [] l ++ ((48 + n % 10) ∷ [])) (digits-more f (n / 10) (div-lt-iff-lt-mul {k = 10} {x = n} {y = 10 ^ suc f} (omega arith) .1 (rw (pow-suc 10 (suc f)) at h)))
+    ap (λ (l : List ℕ). pick (ltb n 10) [] l ++ ((nought + n % 10) ∷ [])) (digits-more f (n / 10) (div-lt-iff-lt-mul {k = 10} {x = n} {y = 10 ^ suc f} (omega arith) .1 (rw (pow-suc 10 (suc f)) at h)))
 
 -- the last digit after those before it
-pub decimal-last : (n : ℕ) → n < 2 ^ 32 → decimal n ≡ pick (ltb n 10) [] (decimal (n / 10)) ++ ((48 + n % 10) ∷ [])
+pub decimal-last : (n : ℕ) → n < 2 ^ 32 → decimal n ≡ pick (ltb n 10) [] (decimal (n / 10)) ++ ((nought + n % 10) ∷ [])
 unfolding decimal decimalTo
-decimal-last n h = ap (λ (l : List ℕ). pick (ltb n 10) [] l ++ ((48 + n % 10) ∷ [])) (sym (digits-more 8 (n / 10) (omega arith)))
+decimal-last n h = ap (λ (l : List ℕ). pick (ltb n 10) [] l ++ ((nought + n % 10) ∷ [])) (sym (digits-more 8 (n / 10) (omega arith)))
 
 pub digits-max : (f n : ℕ) → length (decimalTo f n) ≤ f
 unfolding decimalTo
@@ -68,7 +68,7 @@ line-max word l = simp length-append (omega (arith, fields-max l))
 -- ---- sets
 
 -- a set without members has no fields, and its text is ` -`
-pub setText-none : (l : List ℕ) → length (fields l) ≡ 0 → fields l ++ (32 ∷ 45 ∷ []) ≡ setText l
+pub setText-none : (l : List ℕ) → length (fields l) ≡ 0 → fields l ++ (space ∷ dash ∷ []) ≡ setText l
 unfolding setText fields field
 setText-none [] e = refl
 setText-none (n ∷ l) e = absurd (omega arith)

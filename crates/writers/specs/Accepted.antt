@@ -2,7 +2,7 @@
 use mathlib.Core.Path.{_≡_, refl, ap, _∙_}
 use mathlib.Core.Bool.{true, false, not, not-or-self}
 use mathlib.Core.List.{List, [], _∷_}
-use Prim.Native.Nat.{ℕ, _+_, _-_, _<_}
+use Prim.Native.Nat.{ℕ, _+_, _<_}
 use native.Mathlib.Omega.{arith}
 use borrow.Author.Tests.{le-ltb}
 use lib.ListN.{length}
@@ -14,7 +14,7 @@ use Rattle.field.specs.ScalarLaws.{scalar-word, plus-range}
 use Rattle.interpolation.specs.Definitions.{party}
 use Rattle.records.specs.Parameters.{batch}
 use Rattle.records.specs.Bytes.{byteAt, numberAt, word}
-use Rattle.records.specs.Tags.{tagOf, complaintLength, responseLength}
+use Rattle.records.specs.Tags.{letterD, letterE, letterR, letterS, letterU, letterV, tagOf, complaintLength, responseLength}
 use Rattle.refusals.specs.RefusalLaws.{complaint-passes, response-passes}
 use Rattle.encoding.specs.ByteLaws.{length-fours, word-last, number-at}
 use Rattle.protocol.specs.Transcript.{keyAt}
@@ -30,7 +30,7 @@ use Rattle.run.specs.Steps.{takenAt, atStage, handlerAt, handled, stepOf}
 use Rattle.run.specs.StepLaws.{step-taken, answered-number}
 use Rattle.writers.specs.Writers.{complaintRefused, complaintBytes, responseRefused, responseFor, responseBytes}
 use Rattle.writers.specs.WriterLaws.{complaint-fits, mask-lt, response-fits}
-use Rattle.writers.specs.Honest.{RightShares, number-passes}
+use Rattle.writers.specs.Honest.{ValidShares, number-passes}
 
 -- the tag is the first two bytes
 tag-first : (x y : ℕ) (rest : List ℕ) → tagOf (x ∷ y ∷ rest) ≡ tagOf (x ∷ y ∷ [])
@@ -51,7 +51,7 @@ fresh-stage = refl
 pub setup-accepted : (n t a s : ℕ) (shares : List ℕ) (room : ℕ) → setupRefused n t a s shares room ≡ 0 → stepOf fresh (setupBytes n t a s shares) .number ≡ 0
 unfolding setupBytes takenAt handlerAt atStage handled tagOf byteAt
 setup-accepted n t a s shares room e =
-    ap (λ (p : Reply). p .number) (step-first 83 85 _ fresh fresh-stage)
+    ap (λ (p : Reply). p .number) (step-first letterS letterU _ fresh fresh-stage)
     ∙ answered-number fresh _ _
     ∙ setup-unrefused n t a s shares room e
 
@@ -67,7 +67,7 @@ dealing-accepted r i values room stage e new =
     let n = r .setup .n in
     let t = r .setup .t in
     let a = r .setup .a in
-    ap (λ (p : Reply). p .number) (step-first 68 69 _ r stage)
+    ap (λ (p : Reply). p .number) (step-first letterD letterE _ r stage)
     ∙ answered-number r _ _
     ∙ next-pass _ _
     (dealing-unrefused n t a i values room e)
@@ -77,7 +77,7 @@ dealing-accepted r i values room stage e new =
 
 pub complaint-mask : (r : Run) (j : ℕ) → wellFormed r ≡ true → numberAt (complaintBytes r j) 4 ≡ maskOf (r .setup .n) (mayBlame (r .dealings) j)
 unfolding complaintBytes
-complaint-mask r j w = number-at (86 ∷ 69 ∷ j ∷ 0 ∷ []) (maskOf (r .setup .n) (mayBlame (r .dealings) j)) [] (mask-lt r j w)
+complaint-mask r j w = number-at (letterV ∷ letterE ∷ j ∷ 0 ∷ []) (maskOf (r .setup .n) (mayBlame (r .dealings) j)) [] (mask-lt r j w)
 
 pub complaint-accepted : (r : Run) (j room : ℕ) → complaintRefused r j room ≡ 0 → has (r .complaints .holders) j ≡ false → stepOf r (complaintBytes r j) .number ≡ 0
 unfolding takenAt handlerAt atStage handled tagOf byteAt complaintBytes complaintNumber complaintLength
@@ -85,7 +85,7 @@ complaint-accepted r j room e new =
     let n = r .setup .n in
     let fits = complaint-fits r j room e in
     let mask = complaint-mask r j (fits .formed) in
-    ap (λ (p : Reply). p .number) (step-first 86 69 _ r (fits .stage))
+    ap (λ (p : Reply). p .number) (step-first letterV letterE _ r (fits .stage))
     ∙ answered-number r _ _
     ∙ next-pass _ _
     (complaint-passes n (complaintBytes r j)
@@ -111,7 +111,7 @@ module _ (r : Run) (j key : ℕ) (shares : List ℕ) where
   response-word : (x : ℕ) → x < batch (r .setup .n) (r .setup .t) → word (responseBytes r j key shares) 4 x ≡ responseFor r j key shares (x + 1) .0
   unfolding responseBytes
   response-word x l =
-      word-last (82 ∷ 69 ∷ j ∷ 0 ∷ []) (batch (r .setup .n) (r .setup .t)) (λ u. responseFor r j key shares (u + 1) .0) x l (scalar-word _ (number-range (x + 1)))
+      word-last (letterR ∷ letterE ∷ j ∷ 0 ∷ []) (batch (r .setup .n) (r .setup .t)) (λ u. responseFor r j key shares (u + 1) .0) x l (scalar-word _ (number-range (x + 1)))
 
   response-length : length (responseBytes r j key shares) ≡ responseLength (r .setup .n) (r .setup .t)
   unfolding responseBytes responseLength
@@ -121,12 +121,12 @@ pub response-accepted : (r : Run) (j key : ℕ) (shares : List ℕ) (room : ℕ)
     → responseRefused r j key shares room ≡ 0
     → has (r .responses .responders) j ≡ false
     → raise generator (scalar key) ≡ keyAt (r .setup .t) (r .setup .a) (keyIn (r .setup)) (party j)
-    → RightShares (transcriptOf r) j shares
+    → ValidShares (transcriptOf r) j shares
     → stepOf r (responseBytes r j key shares) .number ≡ 0
 unfolding takenAt handlerAt atStage handled tagOf byteAt transcriptOf transcript responseFor responseBytes responseNumber
 response-accepted r j key shares room e new own right =
     let fits = response-fits r j key shares room e in
-    ap (λ (p : Reply). p .number) (step-first 82 69 _ r (fits .stage))
+    ap (λ (p : Reply). p .number) (step-first letterR letterE _ r (fits .stage))
     ∙ answered-number r _ _
     ∙ next-pass _ _
     (response-passes (r .setup .n) (r .setup .t) (responseBytes r j key shares)

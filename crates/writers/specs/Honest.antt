@@ -26,12 +26,12 @@ power-times : (x y : Scalar) → raise generator (times x y) ≡ raise (raise ge
 power-times x y = ap (raise generator) (times-comm x y) ∙ raise-times generator generator-element y x
 
 module _ (w : Transcript) (j : ℕ) (shares : List ℕ) where
-  -- the shares of QUAL are right
-  abbrev pub RightShares : Type 0
-  RightShares = (i : ℕ) → 0 < i → i ≤ w .n → w .qual i ≡ true → validShare (w .t) (w .a) (w .commitment i) j (scalar (getD shares (i - 1) 0)) ≡ true
+  -- the shares of QUAL are valid (document 01: right)
+  abbrev pub ValidShares : Type 0
+  ValidShares = (i : ℕ) → 0 < i → i ≤ w .n → w .qual i ≡ true → validShare (w .t) (w .a) (w .commitment i) j (scalar (getD shares (i - 1) 0)) ≡ true
 
   -- 4^H_u(j) = C_u(j)
-  combined-is : RightShares → (u : ℕ) → raise generator (combinedShare (w .n) (w .qual) shares u) ≡ combinedAt w u (party j)
+  combined-is : ValidShares → (u : ℕ) → raise generator (combinedShare (w .n) (w .qual) shares u) ≡ combinedAt w u (party j)
   unfolding combinedShare combinedAt productOver dealerFactor
   combined-is right u =
       fold-hom plus (scalar 0) product identity (raise generator) (raise-zero generator) (raise-plus generator generator-element) (w .n) (λ i. part i (w .qual (i + 1)))
@@ -50,7 +50,7 @@ module _ (w : Transcript) (j : ℕ) (shares : List ℕ) where
       go i l false e = raise-zero generator
 
   -- 4^(H_u(j) + E_u(j) × F(j)) = C_u(j) × S_j^E_u(j)
-  pub number-passes : RightShares → (key : ℕ) → raise generator (scalar key) ≡ keyAt (w .t) (w .a) (w .key) (party j)
+  pub number-passes : ValidShares → (key : ℕ) → raise generator (scalar key) ≡ keyAt (w .t) (w .a) (w .key) (party j)
       → (u : ℕ) → passes w u j (plus (combinedShare (w .n) (w .qual) shares u) (times (challengeAt w u (party j)) (scalar key))) ≡ true
   unfolding passes responseAt
   number-passes right key own u =

@@ -1,19 +1,17 @@
 -- What a writer that does not refuse knows.
 -- Assumes nothing.
 use mathlib.Core.Path.{_≡_, fun-ext}
-use mathlib.Core.Bool.{true, not, _&&_, _||_}
+use mathlib.Core.Bool.{true}
 use mathlib.Core.List.{List}
-use Prim.Native.Nat.{ℕ, _+_, _^_, _≤_, _<_}
+use Prim.Native.Nat.{ℕ, _^_, _≤_, _<_}
 use native.Mathlib.Omega.{arith}
 use native.Mathlib.Nat.{le-trans}
 use lib.Pow.{pow-mono}
-use lib.ListN.{length, getD}
-use lib.Dec.{eqb}
+use lib.ListN.{length}
 use borrow.Author.Tests.{eqb-true}
-use Rattle.lists.specs.Tests.{allTo, require, passed}
+use Rattle.lists.specs.Tests.{passed}
 use Rattle.sets.specs.Masks.{has, maskOf}
 use Rattle.sets.specs.MaskLaws.{has-minus, maskOf-lt}
-use Rattle.field.specs.Definitions.{isScalar}
 use Rattle.records.specs.Tags.{complaintLength, responseLength}
 use Rattle.records.specs.Laws.{party-of}
 use Rattle.dealing.specs.Definitions.{mayBlame}
@@ -23,7 +21,7 @@ use Rattle.run.specs.declared.Run.{Run}
 use Rattle.run.specs.Runs.{wellFormed, stageOf, transcriptOf}
 use Rattle.run.specs.RunLaws.{formed-of, stage-live}
 use Rattle.answers.specs.Answers.{unblamedOf}
-use Rattle.writers.specs.Writers.{complaintRefused, responseRefused}
+use Rattle.writers.specs.Writers.{complaintRefused, sharesRefused, responseRefused}
 
 -- ---- VE
 
@@ -56,13 +54,6 @@ mask-lt r j w = le-trans (maskOf-lt (r .setup .n) (mayBlame (r .dealings) j)) (p
 
 -- ---- RE
 
--- what is asked of F(j) and the shares
-unfoldable pub sharesRefused : Run → ℕ → List ℕ → ℕ → ℕ
-sharesRefused r key shares room =
-    require (eqb (length shares) (r .setup .n)) 10
-    (require (isScalar key && allTo (r .setup .n) (λ i. not (transcriptOf r .qual (i + 1)) || isScalar (getD shares i 0))) 6
-    (require (eqb room (responseLength (r .setup .n) (r .setup .t))) 9 0))
-
 -- QUAL as a mask has the members of QUAL
 pub qual-is : (r : Run) → has (unblamedOf r) ≡ transcriptOf r .qual
 unfolding unblamedOf unblamed transcriptOf transcript
@@ -78,7 +69,7 @@ pub record ResponseFits (r : Run) (j : ℕ) (shares : List ℕ) (room : ℕ) : T
   pub exact : room ≡ responseLength (r .setup .n) (r .setup .t)
 
 pub response-fits : (r : Run) (j key : ℕ) (shares : List ℕ) (room : ℕ) → responseRefused r j key shares room ≡ 0 → ResponseFits r j shares room
-unfolding responseRefused
+unfolding responseRefused sharesRefused
 response-fits r j key shares room e =
     let p = passed _ _ _ e (omega arith) in
     let q = passed _ _ _ (p .1) (omega arith) in

@@ -11,7 +11,7 @@ use Rattle.field.specs.declared.Scalar.{Scalar}
 use Rattle.field.specs.Definitions.{scalar, isScalar, plus, times}
 use Rattle.interpolation.specs.Definitions.{party}
 use Rattle.records.specs.Parameters.{batch, isParty}
-use Rattle.records.specs.Tags.{complaintLength, responseLength}
+use Rattle.records.specs.Tags.{letterE, letterR, letterV, complaintLength, responseLength}
 use Rattle.encoding.specs.Bytes.{four, fours}
 use Rattle.protocol.specs.Transcript.{coefficient, challengeAt}
 use Rattle.run.specs.declared.Run.{Run}
@@ -28,18 +28,22 @@ complaintRefused r j room =
 
 -- it blames exactly the accepted dealers whose share for j is not valid
 unfoldable pub complaintBytes : Run → ℕ → List ℕ
-complaintBytes r j = 86 ∷ 69 ∷ j ∷ 0 ∷ four (maskOf (r .setup .n) (mayBlame (r .dealings) j))
+complaintBytes r j = letterV ∷ letterE ∷ j ∷ 0 ∷ four (maskOf (r .setup .n) (mayBlame (r .dealings) j))
 
 -- ---- RE, from a run, j, F(j) and n shares by dealer number, of which only those of QUAL are read or tested for range
+
+-- what is asked of F(j), the shares and the room
+unfoldable pub sharesRefused : Run → ℕ → List ℕ → ℕ → ℕ
+sharesRefused r key shares room =
+    require (eqb (length shares) (r .setup .n)) 10
+    (require (isScalar key && allTo (r .setup .n) (λ i. not (transcriptOf r .qual (i + 1)) || isScalar (getD shares i 0))) 6
+    (require (eqb room (responseLength (r .setup .n) (r .setup .t))) 9 0))
 
 unfoldable pub responseRefused : Run → ℕ → ℕ → List ℕ → ℕ → ℕ
 responseRefused r j key shares room =
     require (eqb (stageOf r) 4) 11
     (require (isParty (r .setup .n) j) 5
-    (require (has (r .complaints .holders) j) 14
-    (require (eqb (length shares) (r .setup .n)) 10
-    (require (isScalar key && allTo (r .setup .n) (λ i. not (transcriptOf r .qual (i + 1)) || isScalar (getD shares i 0))) 6
-    (require (eqb room (responseLength (r .setup .n) (r .setup .t))) 9 0)))))
+    (require (has (r .complaints .holders) j) 14 (sharesRefused r key shares room)))
 
 -- H_u(j): the sum over QUAL of i^(u-1) × H_i(j)
 unfoldable pub combinedShare : ℕ → (ℕ → Bool) → List ℕ → ℕ → Scalar
@@ -53,4 +57,4 @@ responseFor r j key shares u =
 
 unfoldable pub responseBytes : Run → ℕ → ℕ → List ℕ → List ℕ
 responseBytes r j key shares =
-    82 ∷ 69 ∷ j ∷ 0 ∷ fours (batch (r .setup .n) (r .setup .t)) (λ u. responseFor r j key shares (u + 1) .0)
+    letterR ∷ letterE ∷ j ∷ 0 ∷ fours (batch (r .setup .n) (r .setup .t)) (λ u. responseFor r j key shares (u + 1) .0)

@@ -7,7 +7,6 @@ use Prim.Native.Nat.{ℕ}
 use lib.Dec.{leb}
 use Rattle.lists.specs.Tests.{pick}
 use Rattle.run.specs.Runs.{stageOf}
-use Rattle.answers.specs.declared.Sets.{Sets}
 use Rattle.answers.specs.Answers.{badOf, noSets, keptSets, setsOf}
 use Rattle.answers.proofs.sets_of.Statement.{statement}
 use Rattle.answers.proofs.sets_of.Tie as tie

@@ -15,7 +15,7 @@ use Rattle.arrays.specs.Arrays.{cell}
 use Rattle.run.specs.declared.Run.{Run}
 use Rattle.run.specs.Runs.{stageOf, kept}
 use Rattle.run.specs.RunLaws.{formed-of, stage-live}
-use Rattle.answers.specs.Answers.{inBatch, signatureOf}
+use Rattle.answers.specs.Answers.{inBatch, phiAnswer}
 use Rattle.answers.proofs.signature_at.Statement.{statement}
 use Rattle.answers.proofs.signature_at.Tie as tie
 
@@ -39,7 +39,7 @@ stage-of-requires : tie.Need-stage-of-requires
 stage-of-requires c κs = search needs
 
 returns : tie.Need-returns
-unfolding signatureOf
+unfolding phiAnswer
 returns c =
     let early : eqb (stageOf (c .before .before .args .run)) 5 ≡ false = is-not (c .before .stage-of .ensures) (c .if1 .taken) in
     rw early
@@ -52,7 +52,7 @@ in-batch-requires : tie.Need-in-batch-requires
 in-batch-requires c κs = search needs
 
 returns-2 : tie.Need-returns-2
-unfolding signatureOf
+unfolding phiAnswer
 returns-2 c = rw (eq-eqb _ _ (done (c .before .before)), fails (c .before .in-batch .ensures) (c .if2 .taken))
 
 here : (c : tie.Else2) → let a = c .before .before .before .before .args in
@@ -87,7 +87,7 @@ array-copy-out-t16 : tie.Need-array-copy-out-t16
 array-copy-out-t16 c = omega (arith, here (c .before .before) .2)
 
 returns-3 : tie.Need-returns-3
-unfolding signatureOf kept cell
+unfolding phiAnswer kept cell
 returns-3 c =
     let e = c .before .before .before in
     rw (eq-eqb _ _ (done (e .before .before)), holds (e .before .in-batch .ensures) (e .if2 .left)) refl

@@ -80,8 +80,8 @@ weights-requires c κs = search needs
 product-requires : tie.Need-product-requires Inv-loop μ-loop
 product-requires c κs = search needs
 
-cast-signature : tie.Need-cast-signature Inv-loop μ-loop
-cast-signature c = search needs
+cast-phi : tie.Need-cast-phi Inv-loop μ-loop
+cast-phi c = search needs
 
 -- the place of φ(u,k) is in the array
 placed : (c : tie.In-loop Inv-loop μ-loop) →
@@ -91,14 +91,14 @@ placed c =
     let s = c .before .before .before .before .before .before .before .before in
     kept-below (bounds s) (s .args .u) (c .before .loop .k) (s .pre .1) (s .pre .2) (c .loop-test .taken)
 
-add-signature : tie.Need-add-signature Inv-loop μ-loop
-add-signature c = omega (arith, placed (c .before .before .before))
+add-phi : tie.Need-add-phi Inv-loop μ-loop
+add-phi c = omega (arith, placed (c .before .before .before))
 
-mul-signature : tie.Need-mul-signature Inv-loop μ-loop
-mul-signature c = omega (arith, placed (c .before .before .before))
+mul-phi : tie.Need-mul-phi Inv-loop μ-loop
+mul-phi c = omega (arith, placed (c .before .before .before))
 
-element-copy-out-signature : tie.Need-element-copy-out-signature Inv-loop μ-loop
-element-copy-out-signature c = placed (c .before .before .before)
+element-copy-out-phi : tie.Need-element-copy-out-phi Inv-loop μ-loop
+element-copy-out-phi c = placed (c .before .before .before)
 
 add-put-signature : tie.Need-add-put-signature Inv-loop μ-loop
 add-put-signature c = omega (arith, slots (c .before .before .before .before .before))
@@ -183,10 +183,10 @@ put-row-spec =
     point-requires
     weights-requires
     product-requires
-    cast-signature
-    add-signature
-    mul-signature
-    element-copy-out-signature
+    cast-phi
+    add-phi
+    mul-phi
+    element-copy-out-phi
     add-put-signature
     put-signature-requires
     add-k

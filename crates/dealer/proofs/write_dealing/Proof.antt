@@ -8,7 +8,7 @@ use borrow.Author.Tests.{ne-eqb}
 use lib.ListN.{length, getD, length-set, length-append}
 use lib.Seq.{sets}
 use Rattle.records.specs.Parameters.{quorum}
-use Rattle.records.specs.Tags.{dealingLength}
+use Rattle.records.specs.Tags.{letterD, letterE, dealingLength}
 use Rattle.records.specs.Laws.{bounds-test}
 use Rattle.encoding.specs.Bytes.{fours, powerOfFour}
 use Rattle.encoding.specs.ByteLaws.{length-fours}
@@ -77,7 +77,7 @@ returns-2 c =
     let m = quorum (a .t) (a .a) in
     let committed : ℕ → ℕ = λ v. powerOfFour (getD (a .values .now) v 0) in
     let share : ℕ → ℕ = λ j. shareFor (a .t) (a .a) (a .values .now) (j + 1) .0 in
-    let head : List ℕ = 68 ∷ 69 ∷ a .i ∷ 0 ∷ [] in
+    let head : List ℕ = letterD ∷ letterE ∷ a .i ∷ 0 ∷ [] in
     let after : 4 + 4 * length (a .values .now) ≡ length head + length (fours m committed) = omega (arith, known e .count, length-fours m committed) in (
       sym (e .if1 .left) ∙ e .before .dealing-refused .ensures,
       p .put-shares .ensures

@@ -6,7 +6,7 @@ use native.Mathlib.Omega.{arith}
 use borrow.Author.Needs.{needs}
 use borrow.Author.Tests.{ne-eqb}
 use lib.ListN.{length, getD, length-set}
-use Rattle.records.specs.Tags.{setupLength}
+use Rattle.records.specs.Tags.{letterS, letterU, setupLength}
 use Rattle.encoding.specs.Bytes.{four, fours, powerOfFour}
 use Rattle.encoding.specs.ByteLaws.{length-fours}
 use Rattle.encoding.specs.Stores.{sets-parts}
@@ -79,7 +79,7 @@ returns-2 c =
       sym (e .if1 .left) ∙ e .before .setup-refused .ensures,
       p .put-powers .ensures
           ∙ rw (q .put .ensures, q .before .before .pow .ensures, known e .count)
-          (sets-parts (a .out .now) (83 ∷ 85 ∷ a .n ∷ a .t ∷ a .a ∷ 0 ∷ []) key shares (omega (arith, room e, length-fours (a .t) (λ j. powerOfFour (getD (a .shares .now) j 0))))),
+          (sets-parts (a .out .now) (letterS ∷ letterU ∷ a .n ∷ a .t ∷ a .a ∷ 0 ∷ []) key shares (omega (arith, room e, length-fours (a .t) (λ j. powerOfFour (getD (a .shares .now) j 0))))),
     )
 
 pub write-setup-spec : {M : Type 1} → statement M

@@ -2,25 +2,23 @@
 use borrow.Author.Needs.{needs}
 use native.Mathlib.Omega.{arith}
 use mathlib.Core.Logic.{⊎-elim}
-use mathlib.Core.Path.{_≡_, refl, ap}
-use Prim.Native.Nat.{_-_, _≤_}
-use lib.ListN.{length}
-use Rattle.lists.specs.Stores.{stored}
+use mathlib.Core.Path.{ap}
+use Prim.Native.Nat.{_-_}
 use Rattle.field.specs.Definitions.{element}
+use Rattle.records.specs.Parameters.{places}
 use Rattle.records.specs.Bytes.{word}
-use Rattle.lists.specs.Loads.{load-in, load-past, loaded}
+use Rattle.lists.specs.Loads.{Loading, loading-none, loading-in, loading-past, loading-end}
 use Rattle.dealing.proofs.load_commitments.Statement.{statement}
 use Rattle.dealing.proofs.load_commitments.Tie as tie
 
 abbrev Inv-loop : tie.InvT-loop
-Inv-loop base bytes count next₀ v₀ next v = (v ≤ count) × (length next₀ ≡ 1024) × (next ≡ stored next₀ base v (λ k. element (word bytes 4 k)))
+Inv-loop base bytes count next₀ v₀ next v = Loading places next₀ base count (λ k. element (word bytes 4 k)) v next
 
 abbrev μ-loop : tie.MeasureT-loop
 μ-loop base bytes count next₀ v₀ next v = count - v
 
 loop-holds : tie.Need-loop-holds Inv-loop μ-loop
-unfolding stored
-loop-holds c = (omega arith, search needs, refl)
+loop-holds c = loading-none (search needs)
 
 cast-at : tie.Need-cast-at Inv-loop μ-loop
 cast-at c = search needs
@@ -45,18 +43,11 @@ loop-less c = search needs
 
 loop-again : tie.Need-loop-again Inv-loop μ-loop
 loop-again c =
-    let a = c .before .before .before .before .args in
-    let l = c .before .before .loop in (
-      omega arith,
-      l .inv .1,
-      ⊎-elim
-          (λ w. load-in _ (a .base) (l .v) _ (l .inv .2) refl (ap element (w .1 .ensures)) (w .2))
-          (λ w. load-past _ (a .base) (l .v) _ (l .inv .2) (omega arith) (w .1))
-          (c .if1 .came),
-    )
+    let l = c .before .before .loop in
+    ⊎-elim (λ w. loading-in (l .inv) (omega arith) (omega arith) (ap element (w .1 .ensures)) (w .2)) (λ w. loading-past (l .inv) (omega arith) (omega arith) (w .1)) (c .if1 .came)
 
 returns : tie.Need-returns Inv-loop μ-loop
-returns c = loaded _ _ _ _ (c .before .loop .inv .2) (omega arith)
+returns c = loading-end (c .before .loop .inv) (omega arith)
 
 pub load-commitments-spec : {M : Type 1} → statement M
 load-commitments-spec =

@@ -45,9 +45,8 @@ loop-less c = search needs
 
 loop-again : tie.Need-loop-again Inv-loop μ-loop
 loop-again c =
-    let p = c .before .before in
-    let l = p .before .before .before .before .before .loop in
-    (omega arith, put-next _ _ _ (l .i) (l .inv .1) (ap (λ (v : Element). v .0) (p .before .before .pow .ensures)) (p .put .ensures))
+    let l = c .before .before .before .before .before .before .before .loop in
+    (omega arith, put-next _ _ _ (l .i) (l .inv .1) (ap (λ (v : Element). v .0) (c .before .before .before .before .pow .ensures)) (c .before .before .put .ensures))
 
 same-length : tie.Need-same-length Inv-loop μ-loop
 same-length c = c .before .loop .inv .1 .0

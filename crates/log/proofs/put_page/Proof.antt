@@ -13,7 +13,8 @@ use Rattle.run.specs.declared.Reply.{Reply}
 use Rattle.run.specs.declared.Run.{Run}
 use Rattle.run.specs.Steps.{stepOf, untaken}
 use Rattle.run.specs.Refused.{refusal-keeps, untaken-refused}
-use Rattle.log.specs.Turns.{nextLength, nextRecord, lineOf, next-pos, next-max}
+use Rattle.log.specs.Report.{refusalLine}
+use Rattle.log.specs.Turns.{nextLength, nextRecord, next-pos, next-max}
 use Rattle.log.proofs.Reading.{Reading, reading-start, reading-place, reading-length, reading-next, reading-lines, reading-run}
 use Rattle.log.proofs.put_page.Statement.{statement}
 use Rattle.log.proofs.put_page.Tie as tie
@@ -138,8 +139,8 @@ given c =
 -- the line is stored, if there is one
 stored : (c : tie.Joined3 Inv-loop μ-loop) →
     let l = c .before .before .before .before .before .before .before in
-    Wrote (l .loop .out) (c .if3 .out) (l .loop .at) (c .if3 .at) (lineOf (l .loop .position) (c .before .if1 .number))
-unfolding lineOf
+    Wrote (l .loop .out) (c .if3 .out) (l .loop .at) (c .if3 .at) (refusalLine (l .loop .position) (c .before .if1 .number))
+unfolding refusalLine
 stored c =
     ⊎-elim (λ w. rw (w .5, w .6, ne-eqb _ 0 (w .0 .taken)) (w .2 .ensures)) (λ w. rw (w .1, w .2, eq-eqb _ 0 (w .0 .left)) (wrote-none _ _)) (c .if3 .came)
 

@@ -3,7 +3,7 @@ use mathlib.Core.Path.{refl, sym}
 use mathlib.Core.Bool.{and-false}
 use borrow.Author.Needs.{needs}
 use native.Mathlib.Omega.{arith}
-use Rattle.lists.specs.Tests.{Left, left, refused}
+use Rattle.lists.specs.Tests.{Left, left, test-number}
 use Rattle.refusals.specs.Refusals.{challengesRefusal}
 use Rattle.lists.specs.Calls.{holds, fails, equals, differs, is, is-not}
 use Rattle.records.specs.Laws.{byte-product}
@@ -15,7 +15,7 @@ challenges-length-requires c κs = search needs
 
 returns : tie.Need-returns
 unfolding challengesRefusal
-returns c = refused _ _ _ refl (differs (c .before .challenges-length .ensures) (c .if1 .taken))
+returns c = test-number _ _ _ refl (differs (c .before .challenges-length .ensures) (c .if1 .taken))
 
 -- what is left of the refusal once the length is right; the lemmas like it below go on from the one before
 long : (c : tie.Else1) → unfold challengesRefusal in
@@ -28,14 +28,14 @@ byte-requires c κs = search needs
 
 returns-2 : tie.Need-returns-2
 unfolding challengesRefusal
-returns-2 c = refused _ _ _ (long (c .before .before)) (rw (is-not (c .before .byte .ensures) (c .if2 .taken)))
+returns-2 c = test-number _ _ _ (long (c .before .before)) (rw (is-not (c .before .byte .ensures) (c .if2 .taken)))
 
 byte-requires-2 : tie.Need-byte-requires-2
 byte-requires-2 c κs = search needs
 
 returns-3 : tie.Need-returns-3
 unfolding challengesRefusal
-returns-3 c = refused _ _ _ (long (c .before .before .before .before)) (rw (is-not (c .before .byte2 .ensures) (c .if3 .taken), and-false))
+returns-3 c = test-number _ _ _ (long (c .before .before .before .before)) (rw (is-not (c .before .byte2 .ensures) (c .if3 .taken), and-false))
 
 reserved : (c : tie.Else3) → unfold challengesRefusal in (Left _ _ _ (long (c .before .before .before .before)))
 unfolding challengesRefusal
@@ -61,7 +61,7 @@ returns-4 : tie.Need-returns-4
 unfolding challengesRefusal
 returns-4 c =
     let here = rw (c .before .before .batch .ensures) at (c .before .all-scalars .ensures) in
-    refused _ _ _ (reserved (c .before .before .before)) (fails here (c .if4 .taken))
+    test-number _ _ _ (reserved (c .before .before .before)) (fails here (c .if4 .taken))
 
 returns-5 : tie.Need-returns-5
 unfolding challengesRefusal

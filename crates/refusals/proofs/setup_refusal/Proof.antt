@@ -3,7 +3,7 @@ use mathlib.Core.Path.{refl, sym}
 use mathlib.Core.Bool.{and-false}
 use borrow.Author.Needs.{needs}
 use borrow.Author.Tests.{le-leb, lt-leb}
-use Rattle.lists.specs.Tests.{Left, left, refused}
+use Rattle.lists.specs.Tests.{Left, left, test-number}
 use Rattle.refusals.specs.Refusals.{setupRefusal}
 use Rattle.lists.specs.Calls.{holds, fails, equals, differs, is, is-not}
 use Rattle.refusals.proofs.setup_refusal.Statement.{statement}
@@ -11,7 +11,7 @@ use Rattle.refusals.proofs.setup_refusal.Tie as tie
 
 returns : tie.Need-returns
 unfolding setupRefusal
-returns c = refused _ _ _ refl (rw (lt-leb 6 _ (c .if1 .taken)))
+returns c = test-number _ _ _ refl (rw (lt-leb 6 _ (c .if1 .taken)))
 
 byte-requires : tie.Need-byte-requires
 byte-requires c κs = search needs
@@ -23,7 +23,7 @@ returns-2 : tie.Need-returns-2
 unfolding setupRefusal
 returns-2 c =
     let here = rw (c .before .before .byte .ensures) at (c .before .setup-length .ensures) in
-    refused _ _ _ refl (rw (differs here (c .if2 .taken), and-false))
+    test-number _ _ _ refl (rw (differs here (c .if2 .taken), and-false))
 
 -- what is left of the refusal once the length is right; the lemmas like it below go on from the one before
 long : (c : tie.Else2) → unfold setupRefusal in (Left {r = setupRefusal (c .before .before .before .before .before .args .s .now)} _ _ _ refl)
@@ -37,7 +37,7 @@ byte-requires-2 c κs = search needs
 
 returns-3 : tie.Need-returns-3
 unfolding setupRefusal
-returns-3 c = refused _ _ _ (long (c .before .before)) (is-not (c .before .byte2 .ensures) (c .if3 .taken))
+returns-3 c = test-number _ _ _ (long (c .before .before)) (is-not (c .before .byte2 .ensures) (c .if3 .taken))
 
 reserved : (c : tie.Else3) → unfold setupRefusal in (Left _ _ _ (long (c .before .before)))
 unfolding setupRefusal
@@ -58,7 +58,7 @@ returns-4 c =
     let first = c .before .before .before .before in
     let t = first .before .before .before .before .byte .ensures in
     let here = rw (c .before .before .before .byte3 .ensures, t, c .before .before .byte4 .ensures) at (c .before .in-bounds .ensures) in
-    refused _ _ _ (reserved first) (fails here (c .if4 .taken))
+    test-number _ _ _ (reserved first) (fails here (c .if4 .taken))
 
 bounds : (c : tie.Else4) → unfold setupRefusal in (Left _ _ _ (reserved (c .before .before .before .before)))
 unfolding setupRefusal
@@ -82,7 +82,7 @@ unfolding setupRefusal
 returns-5 c =
     let t = c .before .before .before .before .before .before .before .before .before .before .byte .ensures in
     let here = rw t at (c .before .all-elements .ensures) in
-    refused _ _ _ (bounds (c .before .before)) (fails here (c .if5 .taken))
+    test-number _ _ _ (bounds (c .before .before)) (fails here (c .if5 .taken))
 
 returns-6 : tie.Need-returns-6
 unfolding setupRefusal

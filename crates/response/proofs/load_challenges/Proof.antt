@@ -2,31 +2,29 @@
 use borrow.Author.Needs.{needs}
 use native.Mathlib.Omega.{arith}
 use mathlib.Core.Logic.{⊎-elim}
-use mathlib.Core.Path.{_≡_, refl, ap}
-use Prim.Native.Nat.{_-_, _≤_}
-use lib.ListN.{length}
-use Rattle.lists.specs.Stores.{stored}
+use mathlib.Core.Path.{ap}
+use Prim.Native.Nat.{_-_}
 use Rattle.field.specs.Definitions.{scalar}
+use Rattle.records.specs.Parameters.{cells}
 use Rattle.records.specs.Bytes.{word}
-use Rattle.lists.specs.Loads.{load-in, load-past, loaded}
+use Rattle.lists.specs.Loads.{Loading, loading-none, loading-in, loading-past, loading-end}
 use Rattle.response.proofs.load_challenges.Statement.{statement}
 use Rattle.response.proofs.load_challenges.Tie as tie
 
 abbrev Inv-loop : tie.InvT-loop
-Inv-loop bytes count next₀ x₀ next x = (x ≤ count) × (length next₀ ≡ 512) × (next ≡ stored next₀ 0 x (λ k. scalar (word bytes 4 k)))
+Inv-loop bytes count next₀ x₀ next x = Loading cells next₀ 0 count (λ k. scalar (word bytes 4 k)) x next
 
 abbrev μ-loop : tie.MeasureT-loop
 μ-loop bytes count next₀ x₀ next x = count - x
 
 loop-holds : tie.Need-loop-holds Inv-loop μ-loop
-unfolding stored
-loop-holds c = (omega arith, search needs, refl)
+loop-holds c = loading-none (search needs)
+
+cast-at : tie.Need-cast-at Inv-loop μ-loop
+cast-at c = search needs
 
 word-requires : tie.Need-word-requires Inv-loop μ-loop
 word-requires c κs = search needs
-
-cast-next : tie.Need-cast-next Inv-loop μ-loop
-cast-next c = search needs
 
 mul-next : tie.Need-mul-next Inv-loop μ-loop
 mul-next c = search needs
@@ -42,17 +40,11 @@ loop-less c = search needs
 
 loop-again : tie.Need-loop-again Inv-loop μ-loop
 loop-again c =
-    let l = c .before .before .loop in (
-      omega arith,
-      l .inv .1,
-      ⊎-elim
-          (λ w. load-in _ 0 (l .x) _ (l .inv .2) (omega arith) (ap scalar (w .1 .ensures)) (w .2))
-          (λ w. load-past _ 0 (l .x) _ (l .inv .2) (omega arith) (w .1))
-          (c .if1 .came),
-    )
+    let l = c .before .before .loop in
+    ⊎-elim (λ w. loading-in (l .inv) (omega arith) (omega arith) (ap scalar (w .1 .ensures)) (w .2)) (λ w. loading-past (l .inv) (omega arith) (omega arith) (w .1)) (c .if1 .came)
 
 returns : tie.Need-returns Inv-loop μ-loop
-returns c = loaded _ 0 _ _ (c .before .loop .inv .2) (omega arith)
+returns c = loading-end (c .before .loop .inv) (omega arith)
 
 pub load-challenges-spec : {M : Type 1} → statement M
 load-challenges-spec =
@@ -61,8 +53,8 @@ load-challenges-spec =
     Inv-loop
     μ-loop
     loop-holds
+    cast-at
     word-requires
-    cast-next
     mul-next
     array-set-from-next
     add-x

@@ -20,7 +20,7 @@ use Rattle.combination.specs.Combination.{powersAt}
 use Rattle.arrays.specs.ArrayLaws.{elements-length}
 use Rattle.combination.specs.Powers.{powers-none, powers-next, combined-powers}
 use Rattle.response.specs.Definitions.{transcript}
-use Rattle.response.proofs.Rows.{wanted, fits, all-weights, row-tested}
+use Rattle.response.proofs.ResponseRows.{wanted, fits, all-weights, row-tested}
 use Rattle.response.proofs.row_passes.Statement.{statement}
 use Rattle.response.proofs.row_passes.Tie as tie
 

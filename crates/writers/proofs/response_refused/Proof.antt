@@ -8,7 +8,6 @@ use Rattle.lists.specs.Tests.{require}
 use Rattle.lists.specs.Calls.{holds, fails, is, is-not}
 use Rattle.sets.specs.Masks.{has}
 use Rattle.writers.specs.Writers.{responseRefused}
-use Rattle.writers.specs.WriterLaws.{sharesRefused}
 use Rattle.writers.proofs.response_refused.Statement.{statement}
 use Rattle.writers.proofs.response_refused.Tie as tie
 
@@ -46,7 +45,7 @@ shares-refused-requires : tie.Need-shares-refused-requires
 shares-refused-requires c κs = search needs
 
 returns-4 : tie.Need-returns-4
-unfolding responseRefused sharesRefused require
+unfolding responseRefused require
 returns-4 c =
     let holder = c .before in
     let party = holder .before .before in

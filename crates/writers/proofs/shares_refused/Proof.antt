@@ -15,7 +15,8 @@ use Rattle.records.specs.Tags.{responseLength}
 use Rattle.run.specs.declared.Run.{Run}
 use Rattle.run.specs.Runs.{transcriptOf}
 use Rattle.answers.specs.Answers.{unblamedOf}
-use Rattle.writers.specs.WriterLaws.{sharesRefused, qual-is}
+use Rattle.writers.specs.Writers.{sharesRefused}
+use Rattle.writers.specs.WriterLaws.{qual-is}
 use Rattle.writers.proofs.shares_refused.Statement.{statement}
 use Rattle.writers.proofs.shares_refused.Tie as tie
 

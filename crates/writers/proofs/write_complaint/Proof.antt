@@ -7,7 +7,7 @@ use borrow.Author.Needs.{needs}
 use borrow.Author.Tests.{ne-eqb}
 use lib.ListN.{length, length-set}
 use Rattle.sets.specs.Masks.{maskOf}
-use Rattle.records.specs.Tags.{complaintLength}
+use Rattle.records.specs.Tags.{letterE, letterV, complaintLength}
 use Rattle.encoding.specs.Bytes.{four}
 use Rattle.encoding.specs.Stores.{sets-whole}
 use Rattle.dealing.specs.Definitions.{mayBlame}
@@ -68,7 +68,7 @@ returns-2 c =
       sym (e .if1 .left) ∙ e .before .complaint-refused .ensures,
       p .put .ensures
           ∙ rw (p .before .before .wrong-dealers .ensures, low)
-          (sets-whole (a .out .now) (86 ∷ 69 ∷ a .j ∷ 0 ∷ []) (four mask) (omega (arith, room e))),
+          (sets-whole (a .out .now) (letterV ∷ letterE ∷ a .j ∷ 0 ∷ []) (four mask) (omega (arith, room e))),
     )
 
 pub write-complaint-spec : {M : Type 1} → statement M

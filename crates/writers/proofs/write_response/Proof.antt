@@ -7,7 +7,7 @@ use borrow.Author.Needs.{needs}
 use borrow.Author.Tests.{ne-eqb}
 use lib.ListN.{length, length-set}
 use Rattle.records.specs.Parameters.{batch}
-use Rattle.records.specs.Tags.{responseLength}
+use Rattle.records.specs.Tags.{letterE, letterR, responseLength}
 use Rattle.encoding.specs.Bytes.{fours}
 use Rattle.encoding.specs.ByteLaws.{length-fours}
 use Rattle.encoding.specs.Stores.{sets-whole}
@@ -61,7 +61,7 @@ returns-2 c =
     let m = batch (a .run .setup .n) (a .run .setup .t) in
     let number : ℕ → ℕ = λ u. responseFor (a .run) (a .j) (a .key) (a .shares .now) (u + 1) .0 in (
       sym (e .if1 .left) ∙ e .before .response-refused .ensures,
-      p .put-responses .ensures ∙ sets-whole (a .out .now) (82 ∷ 69 ∷ a .j ∷ 0 ∷ []) (fours m number) (omega (arith, room e, length-fours m number)),
+      p .put-responses .ensures ∙ sets-whole (a .out .now) (letterR ∷ letterE ∷ a .j ∷ 0 ∷ []) (fours m number) (omega (arith, room e, length-fours m number)),
     )
 
 pub write-response-spec : {M : Type 1} → statement M

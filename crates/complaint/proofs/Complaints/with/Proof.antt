@@ -3,7 +3,7 @@ use borrow.Author.Needs.{needs}
 use native.Mathlib.Omega.{arith}
 use mathlib.Core.Logic.{⊎-elim}
 use mathlib.Core.Path.{_≡_, sym, ap, ap₂, _∙_}
-use Prim.Native.Nat.{_-_}
+use Prim.Native.Nat.{ℕ, _-_}
 use lib.ListN.{length, set}
 use lib.Seq.{set-out}
 use Rattle.sets.specs.Masks.{insert}
@@ -18,8 +18,11 @@ add-rows c = search needs
 byte-requires : tie.Need-byte-requires
 byte-requires c κs = search needs
 
-sub-before : tie.Need-sub-before
-sub-before c = search needs
+predecessor-requires : tie.Need-predecessor-requires
+predecessor-requires c κs = search needs
+
+cast-at : tie.Need-cast-at
+cast-at c = search needs
 
 number-requires : tie.Need-number-requires
 number-requires c κs = search needs
@@ -43,16 +46,16 @@ returns : tie.Need-returns
 unfolding withComplaint
 returns c =
     let kept = c .before in
-    let place = kept .before .before .before in
+    let place = kept .before .before in
     let start = place .before .before .before .before in
     let a = start .args in
     let s = a .bytes .now in
     let party = place .before .byte .ensures in
-    let at : place .if1 .before ≡ sender s - 1 = ⊎-elim (λ w. omega arith) (λ w. omega arith) (place .if1 .came) in
+    let at : place .predecessor .result ≡ sender s - 1 = place .predecessor .ensures ∙ ap (λ (j : ℕ). j - 1) party in
     let size = long start in
     let holders = c .insert .ensures ∙ ap (insert (a .self .holders)) party in
-    let masks : kept .if2 .masks ≡ set (a .self .masks) (sender s - 1) (numberAt s 4) =
-    ⊎-elim (λ w. w .2 ∙ ap₂ (set (a .self .masks)) at (w .1 .ensures)) (λ w. w .1 ∙ sym (set-out (a .self .masks) (sender s - 1) (numberAt s 4) (omega arith))) (kept .if2 .came) in
+    let masks : kept .if1 .masks ≡ set (a .self .masks) (sender s - 1) (numberAt s 4) =
+    ⊎-elim (λ w. w .2 ∙ ap₂ (set (a .self .masks)) at (w .1 .ensures)) (λ w. w .1 ∙ sym (set-out (a .self .masks) (sender s - 1) (numberAt s 4) (omega arith))) (kept .if1 .came) in
     rw (holders, masks)
 
 pub with-spec : {M : Type 1} → statement M
@@ -61,7 +64,8 @@ with-spec =
     (tie.spec
     add-rows
     byte-requires
-    sub-before
+    predecessor-requires
+    cast-at
     number-requires
     cast-masks
     mul-masks

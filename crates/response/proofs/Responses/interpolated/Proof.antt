@@ -5,7 +5,7 @@ use mathlib.Core.Path.{_∙_, _≡_, sym}
 use Rattle.interpolation.specs.Definitions.{slot}
 use Rattle.interpolation.specs.Bases.{weights-by}
 use Rattle.interpolation.specs.Laws.{slot-is}
-use Rattle.response.proofs.Rows.{phi-members}
+use Rattle.response.proofs.ResponseRows.{phi-members}
 use Rattle.response.proofs.Responses.interpolated.Statement.{statement}
 use Rattle.response.proofs.Responses.interpolated.Tie as tie
 

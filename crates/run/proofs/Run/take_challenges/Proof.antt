@@ -2,10 +2,9 @@
 use borrow.Author.Needs.{needs}
 use native.Mathlib.Omega.{arith}
 use mathlib.Core.Path.{_≡_, ap, _∙_}
-use mathlib.Core.List.{List}
-use Rattle.field.specs.declared.Scalar.{Scalar}
 use Rattle.records.specs.Laws.{cells-max}
 use Rattle.run.specs.RunLaws.{formed-of}
+use Rattle.run.specs.Runs.{setChallenges}
 use Rattle.run.specs.Steps.{afterChallenges}
 use Rattle.run.proofs.Numbers.{refused-by, accepted-by}
 use Rattle.run.proofs.Run.take_challenges.Statement.{statement}
@@ -46,17 +45,7 @@ returns-2 c =
     let r = a .self in
     let list : c .load-challenges .result ≡ afterChallenges r (a .bytes .now) .challenges = c .load-challenges .ensures ∙ rw (batch .batch .ensures) in
     accepted-by (passed .before .challenges-refusal .ensures) _ (passed .if1 .left)
-    (ap
-    (λ (l : List Scalar). record {
-      stage = 4;
-      setup = r .setup;
-      dealings = r .dealings;
-      complaints = r .complaints;
-      challenges = l;
-      responses = r .responses;
-      signatures = r .signatures;
-    })
-    list)
+    (ap (setChallenges r 4) list)
 
 pub take-challenges-spec : {M : Type 1} → statement M
 take-challenges-spec =

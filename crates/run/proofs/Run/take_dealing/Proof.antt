@@ -4,13 +4,14 @@ use borrow.Author.Tests.{eq-eqb, ne-eqb}
 use native.Mathlib.Omega.{arith}
 use mathlib.Core.Logic.{⊎-elim}
 use mathlib.Core.Path.{_≡_, ap, ap₂, sym, _∙_}
-use Prim.Native.Nat.{ℕ, _+_, _-_}
+use Prim.Native.Nat.{_+_, _-_}
 use lib.Dec.{eqb}
 use Rattle.lists.specs.Tests.{pick, or-next}
 use Rattle.records.specs.Laws.{bounds-test}
 use Rattle.refusals.specs.RefusalLaws.{dealing-passed}
 use Rattle.dealing.specs.declared.Dealings.{Dealings}
 use Rattle.dealing.specs.Definitions.{dealingNumber, withDealing}
+use Rattle.run.specs.Runs.{setDealings}
 use Rattle.run.specs.Steps.{afterDealing}
 use Rattle.run.specs.RunLaws.{formed-of}
 use Rattle.run.proofs.Numbers.{refused-by, accepted-by}
@@ -54,17 +55,7 @@ returns-2 c =
     (λ w. w .1 ∙ rw (ne-eqb _ _ (λ e. w .0 .left (more ∙ e))))
     (c .if2 .came) in
     accepted-by (passed .before .number .ensures) _ (passed .if1 .left)
-    (ap₂
-    (λ (g : ℕ) (d : Dealings). record {
-      stage = g;
-      setup = r .setup;
-      dealings = d;
-      complaints = r .complaints;
-      challenges = r .challenges;
-      responses = r .responses;
-      signatures = r .signatures;
-    })
-    stage (taken .with .ensures))
+    (ap₂ (setDealings r) stage (taken .with .ensures))
 
 pub take-dealing-spec : {M : Type 1} → statement M
 take-dealing-spec =

@@ -9,8 +9,8 @@ use lib.Dec.{eqb}
 use Rattle.lists.specs.Tests.{pick}
 use Rattle.records.specs.Parameters.{quorum}
 use Rattle.records.specs.Laws.{bounds-test}
-use Rattle.run.specs.declared.Run.{Run}
 use Rattle.response.specs.declared.Responses.{Responses}
+use Rattle.run.specs.Runs.{setResponses}
 use Rattle.run.specs.Steps.{withRow, finished, afterResponse}
 use Rattle.run.specs.RunLaws.{formed-of}
 use Rattle.run.proofs.Numbers.{refused-by, accepted-by}
@@ -48,18 +48,6 @@ finish-requires c κs =
     let start = c .before .before .before .before .before .before .before .before .before .before .before .before in
     bounds-test (formed-of (start .args .self) (start .pre) .bounds)
 
--- the run with the rows p, at stage 4
-abbrev with-rows : Run → Responses → Run
-with-rows r p = record {
-  stage = 4;
-  setup = r .setup;
-  dealings = r .dealings;
-  complaints = r .complaints;
-  challenges = r .challenges;
-  responses = p;
-  signatures = r .signatures;
-}
-
 returns-2 : tie.Need-returns-2
 unfolding afterResponse withRow
 returns-2 c =
@@ -70,7 +58,7 @@ returns-2 c =
     let r = a .self in
     let done : eqb (r .responses .count + 1) (quorum (r .setup .t) (r .setup .a)) ≡ true = eq-eqb _ _ (c .before .if2 .taken ∙ need .quorum .ensures) in
     accepted-by (passed .before .number .ensures) _ (passed .if1 .left)
-    (c .finish .ensures ∙ ap (λ (p : Responses). finished (with-rows r p)) (taken .with .ensures)
+    (c .finish .ensures ∙ ap (λ (p : Responses). finished (setResponses r 4 p)) (taken .with .ensures)
     ∙ sym (ap (λ (b : Bool). pick b (finished (withRow r (a .bytes .now))) (withRow r (a .bytes .now))) done))
 
 returns-3 : tie.Need-returns-3
@@ -83,7 +71,7 @@ returns-3 c =
     let r = a .self in
     let more : eqb (r .responses .count + 1) (quorum (r .setup .t) (r .setup .a)) ≡ false = ne-eqb _ _ (λ e. c .if2 .left (e ∙ sym (need .quorum .ensures))) in
     accepted-by (passed .before .number .ensures) _ (passed .if1 .left)
-    (ap (with-rows r) (taken .with .ensures)
+    (ap (setResponses r 4) (taken .with .ensures)
     ∙ sym (ap (λ (b : Bool). pick b (finished (withRow r (a .bytes .now))) (withRow r (a .bytes .now))) more))
 
 pub take-response-spec : {M : Type 1} → statement M
