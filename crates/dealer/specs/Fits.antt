@@ -26,7 +26,7 @@ setup-fits n t a s shares room e =
     let q = passed _ _ _ (p .1) (omega arith) in
     let r = passed _ _ _ (q .1) (omega arith) in
     let v = passed _ _ _ (r .1) (omega arith) in
-    record { bounds = bounds-of n t a (p .0); count = eqb-true _ _ (q .0); exact = eqb-true _ _ (v .0) }
+    record { bounds = bounds-of n t a (p .0); count = eqb-true _ _ (search); exact = eqb-true _ _ (search) }
 
 -- ---- DE
 

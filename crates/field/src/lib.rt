@@ -1,7 +1,7 @@
 // Scalars modulo q and group elements modulo P, two kinds of number that are never taken for one another.
 ghost use mathlib.Core.Path.{_≡_};
 ghost use Prim.Native.Nat.{_<_};
-ghost use Rattle.field.specs.Definitions.{powerOf, reduced, plus, minus, times, inverse, power, isScalar, sameElement, product, powered, raise, isElement};
+ghost use Rattle.field.specs.Definitions.{scalar, identity, generator, powerOf, reduced, plus, minus, times, inverse, power, isScalar, sameElement, product, powered, raise, isElement};
 
 // A number from 0 to q - 1, counted modulo q.
 pub struct Scalar(pub u32);
@@ -38,6 +38,20 @@ impl Scalar {
     pub const ZERO: Scalar = Scalar(0);
 
     pub const ONE: Scalar = Scalar(1);
+
+    // What the constant ZERO is.
+    pub fn zero() -> Scalar
+        ensures { λ r. ⌜ r ≡ scalar 0 ⌝ }
+    {
+        Scalar::ZERO
+    }
+
+    // What the constant ONE is.
+    pub fn one() -> Scalar
+        ensures { λ r. ⌜ r ≡ scalar 1 ⌝ }
+    {
+        Scalar::ONE
+    }
 
     // The scalar that a number comes to modulo q.
     pub fn new(x: u32) -> Scalar
@@ -106,6 +120,20 @@ impl Element {
     pub const ONE: Element = Element(1);
 
     pub const GENERATOR: Element = Element(4);
+
+    // What the constant ONE is.
+    pub fn one() -> Element
+        ensures { λ r. ⌜ r ≡ identity ⌝ }
+    {
+        Element::ONE
+    }
+
+    // What the constant GENERATOR is.
+    pub fn generator() -> Element
+        ensures { λ r. ⌜ r ≡ generator ⌝ }
+    {
+        Element::GENERATOR
+    }
 
     // Whether a number is an element as it stands: by its order, and not by range alone.
     pub fn accepts(x: u32) -> bool

@@ -84,7 +84,7 @@ response-fits r j key shares room e =
       formed = stage-live r 4 stage (omega arith) (omega arith) .1;
       party-pos = party .0;
       party-max = party .1;
-      holder = h .0;
-      count = eqb-true _ _ (v .0);
-      exact = eqb-true _ _ (x .0);
+      holder = search;
+      count = eqb-true _ _ (search);
+      exact = eqb-true _ _ (search);
     }

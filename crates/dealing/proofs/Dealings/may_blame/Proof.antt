@@ -1,9 +1,12 @@
 -- `Dealings::may_blame` meets its contract. Assumes nothing.
-use borrow.Author.Tests.{not-true, not-false}
+use borrow.Author.Tests.{not-false}
 use borrow.Author.Needs.{needs}
 use native.Mathlib.Omega.{arith}
 use mathlib.Core.Path.{_≡_, sym}
+use mathlib.Core.Bool.{false}
 use lib.ListN.{length}
+use Rattle.lists.specs.Calls.{fails}
+use Rattle.sets.specs.Masks.{has}
 use Rattle.dealing.specs.Definitions.{mayBlame}
 use Rattle.dealing.proofs.Blames.{blame-none, blame-past}
 use Rattle.dealing.proofs.Dealings.may_blame.Statement.{statement}
@@ -26,7 +29,10 @@ has-requires c κs = search needs
 
 returns-3 : tie.Need-returns-3
 unfolding mayBlame
-returns-3 c = rw (← c .before .has .ensures, not-true (c .before .has .result) (c .if3 .taken))
+returns-3 c =
+    let a = c .before .before .before .before .args in
+    let undealt : has (a .t1 .dealers) (a .i) ≡ false = fails (c .before .has .ensures) (c .if3 .taken) in
+    rw undealt
 
 cast-at : tie.Need-cast-at
 cast-at c = search needs

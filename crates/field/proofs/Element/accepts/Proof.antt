@@ -30,7 +30,7 @@ unfolding isElement P q
 returns-3 c =
     let x = c .before .before .before .args .x in
     let p : 0 < x = omega arith in
-    rw (lt-ltb 0 x p, lt-ltb x 1000000007 (c .before .if2 .left)) (ap (λ z. eqb z 1) (c .power-of .ensures))
+    rw (lt-ltb 0 x p, lt-ltb x P (c .before .if2 .left)) (ap (λ z. eqb z 1) (c .power-of .ensures))
 
 pub accepts-spec : {M : Type 1} → statement M
 accepts-spec = tie.close (tie.spec returns returns-2 power-of-requires returns-3)

@@ -1,7 +1,7 @@
 -- `Scalar::inverse` meets its contract. The loop keeps factor times the inverse of what is left, modulo q. Assumes nothing.
 use borrow.Author.Needs.{needs}
 use native.Mathlib.Omega.{arith}
-use native.Mathlib.Nat.{mod-lt, mod-eq-of-lt, one-mul, div-le-self}
+use native.Mathlib.Nat.{mod-lt, mod-eq-of-lt, one-mul, div-le-self, lt-trans}
 use mathlib.Core.Path.{_≡_, _∙_, ap, sym}
 use Prim.Native.Nat.{ℕ, _*_, _%_, _-_, _/_, _<_}
 use Rattle.field.specs.declared.Scalar.{Scalar}
@@ -28,7 +28,8 @@ div-t6 : tie.Need-div-t6 Inv-loop μ-loop
 div-t6 c = search needs
 
 sub-t7 : tie.Need-sub-t7 Inv-loop μ-loop
-sub-t7 c = omega (arith, div-le-self 500000003 (c .before .loop .left))
+unfolding q
+sub-t7 c = omega (arith, div-le-self q (c .before .loop .left))
 
 mul-requires : tie.Need-mul-requires Inv-loop μ-loop
 mul-requires c κs = search needs
@@ -37,7 +38,7 @@ rem-left : tie.Need-rem-left Inv-loop μ-loop
 rem-left c = search needs
 
 loop-less : tie.Need-loop-less Inv-loop μ-loop
-loop-less c = let p : 0 < c .before .before .loop .left = omega arith in omega (arith, mod-lt 500000003 p)
+loop-less c = let p : 0 < c .before .before .loop .left = omega arith in mod-lt _ p
 
 loop-again : tie.Need-loop-again Inv-loop μ-loop
 unfolding q times
@@ -45,7 +46,7 @@ loop-again c =
     let l = c .before .before .loop in
     let p : 0 < l .left = omega arith in
     let y = inverseOf (q % l .left) in (
-      omega (arith, mod-lt q p),
+      lt-trans (mod-lt _ p) (l .inv .0),
       l .inv .1,
       ap (λ (z : Scalar). z .0 * y % q) (c .mul .ensures) ∙ mod-mul-mod (l .factor .0 * (q - q / l .left)) y q ∙ same q (omega arith)
           ∙ sym (mul-mod-mod (l .factor .0) ((q - q / l .left) * y) q) ∙ ap (λ (z : ℕ). l .factor .0 * z % q) (sym (inverse-step (l .left) (omega arith))) ∙ l .inv .2,
