@@ -46,7 +46,7 @@ pub fn record_length(run: Run, rest: &[u8]) -> usize
 }
 
 // The length of the next record: by its tag where it is whole, else all that is left.
-fn next_length(run: Run, rest: &[u8]) -> usize
+pub fn next_length(run: Run, rest: &[u8]) -> usize
     ensures { λ r. ⌜ r ≡ nextLength run (now (rest .entry)) ⌝ }
 {
     let length = record_length(run, rest);

@@ -5,6 +5,7 @@ ghost use lib.ListN.{length};
 use libc::STDERR_FILENO;
 use libc::STDIN_FILENO;
 use libc::STDOUT_FILENO;
+use log::LONGEST;
 use run::Run;
 
 // The bytes of a number, and of a count or a buffer's length.
@@ -68,30 +69,15 @@ fn answer_broken() {
     io::write_all(STDOUT_FILENO, b"broken\n");
 }
 
-// The length of a log's next record, or of the rest.
-fn next_length(run: Run, rest: &[u8]) -> usize {
-    let size = log::record_length(run, rest);
-    if size == 0 {
-        return rest.len();
-    }
-    if rest.len() < size {
-        return rest.len();
-    }
-    size
-}
-
-// The most bytes of a log.
-const LOG: usize = 65536;
-
 // The run after a log.
 fn run_of(log: &[u8]) -> Run {
     let mut run = Run::fresh();
     let mut from: usize = 0;
-    let turns: usize = LOG;
+    let turns: usize = LONGEST;
     for _ in 0..turns {
         if from < log.len() {
             let rest = &log[from..];
-            let size = next_length(run, rest);
+            let size = log::next_length(run, rest);
             if size <= rest.len() {
                 let reply = run.step(&rest[..size]);
                 run = reply.run;
@@ -195,7 +181,7 @@ fn serve_log(kind: u8, s: &[u8], list: &mut [u32], out: &mut [u8])
     requires { ⌜ 65535 ≤ length (now out) ⌝ }
 {
     let size = four(s, 0) as usize;
-    if LOG < size {
+    if LONGEST < size {
         answer_broken();
         return;
     }

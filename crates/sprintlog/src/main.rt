@@ -3,10 +3,11 @@
 use libc::STDERR_FILENO;
 use libc::STDIN_FILENO;
 use libc::STDOUT_FILENO;
+use log::LONGEST;
 use log::REPORT;
 
 // One byte more than a log may have, so that one which is too long is seen.
-const ROOM: usize = 65537;
+const ROOM: usize = LONGEST + 1;
 
 fn say_unmade() {
     io::write_all(STDERR_FILENO, b"sprintlog: the page could not be made\n");
