@@ -11,31 +11,31 @@ use Rattle.field.specs.declared.Scalar.{Scalar}
 use Rattle.field.specs.declared.Element.{Element}
 use Rattle.field.specs.Definitions.{scalar, identity}
 use Rattle.interpolation.specs.Definitions.{party, slot, committedPoint, scalarAt, elementAt}
-use Rattle.interpolation.specs.Rows.{listed, weightsOf, sumOf, productOf, scalarAt-cong, elementAt-cong, sum-weights, product-weights}
+use Rattle.interpolation.specs.Rows.{mostScalars, listed, weightsOf, sumOf, productOf, scalarAt-cong, elementAt-cong, sum-weights, product-weights}
 use Rattle.arrays.specs.Arrays.{base, challengeIn, memberPoints, memberNumbers, elements, scalars}
 
 -- sixty-four places
-pub elements-length : (m : ℕ) (f : ℕ → Element) → length (elements m f) ≡ 64
+pub elements-length : (m : ℕ) (f : ℕ → Element) → length (elements m f) ≡ mostScalars
 unfolding elements
-elements-length m f = length-stored (filled 64 identity) 0 m f ∙ length-filled 64 identity
+elements-length m f = length-stored (filled mostScalars identity) 0 m f ∙ length-filled mostScalars identity
 
 -- what was stored is read there
-pub elements-at : (m : ℕ) (f : ℕ → Element) (i : ℕ) → i < m → m ≤ 64 → getD (elements m f) i identity ≡ f i
+pub elements-at : (m : ℕ) (f : ℕ → Element) (i : ℕ) → i < m → m ≤ mostScalars → getD (elements m f) i identity ≡ f i
 unfolding elements
-elements-at m f i l h = stored-from (filled 64 identity) m f identity (omega (arith, length-filled 64 identity)) i l
+elements-at m f i l h = stored-from (filled mostScalars identity) m f identity (omega (arith, length-filled mostScalars identity)) i l
 
-pub scalars-at : (m : ℕ) (f : ℕ → Scalar) (i : ℕ) → i < m → m ≤ 64 → getD (scalars m f) i (scalar 0) ≡ f i
+pub scalars-at : (m : ℕ) (f : ℕ → Scalar) (i : ℕ) → i < m → m ≤ mostScalars → getD (scalars m f) i (scalar 0) ≡ f i
 unfolding scalars
-scalars-at m f i l h = stored-from (filled 64 (scalar 0)) m f (scalar 0) (omega (arith, length-filled 64 (scalar 0))) i l
+scalars-at m f i l h = stored-from (filled mostScalars (scalar 0)) m f (scalar 0) (omega (arith, length-filled mostScalars (scalar 0))) i l
 
 -- scalars at any points, by their weights at x
-pub scalars-interpolated : (m : ℕ) (pt f : ℕ → Scalar) (x : Scalar) → m ≤ 64 → sumOf (weightsOf (listed m pt) x) (scalars m f) ≡ scalarAt pt m f x
+pub scalars-interpolated : (m : ℕ) (pt f : ℕ → Scalar) (x : Scalar) → m ≤ mostScalars → sumOf (weightsOf (listed m pt) x) (scalars m f) ≡ scalarAt pt m f x
 scalars-interpolated m pt f x h =
     sum-weights m pt x (scalars m f) h ∙ scalarAt-cong pt pt m (λ i. getD (scalars m f) i (scalar 0)) f x (λ i l. refl) (λ i l. scalars-at m f i l h)
 
 -- committed values, and the key's, by the weights of the committed points
 pub values-interpolated : (m a : ℕ) (f : ℕ → Element) (x : Scalar)
-    → m ≤ 64
+    → m ≤ mostScalars
     → productOf (weightsOf (listed m (committedPoint a)) x) (elements m f) ≡ elementAt (committedPoint a) m f x
 values-interpolated m a f x h =
     product-weights m (committedPoint a) x (elements m f) h
@@ -43,7 +43,7 @@ values-interpolated m a f x h =
 
 -- E_u(x) from the challenges
 pub challenges-interpolated : (a : ℕ) (list : List Scalar) (u : ℕ) (x : Scalar)
-    → a ≤ 64
+    → a ≤ mostScalars
     → sumOf (weightsOf (listed a (λ v. slot (v + 1))) x) (scalars a (λ v. challengeIn a list u (v + 1)))
     ≡ scalarAt (λ v. slot (v + 1)) a (λ v. challengeIn a list u (v + 1)) x
 challenges-interpolated a list u x h = scalars-interpolated a (λ v. slot (v + 1)) (λ v. challengeIn a list u (v + 1)) x h

@@ -9,7 +9,7 @@ use Rattle.field.specs.declared.Element.{Element}
 use Rattle.field.specs.Definitions.{scalar, identity}
 use Rattle.interpolation.specs.declared.Row.{Row}
 use Rattle.interpolation.specs.Definitions.{party}
-use Rattle.interpolation.specs.Rows.{listed}
+use Rattle.interpolation.specs.Rows.{mostScalars, listed}
 use Rattle.records.specs.Parameters.{stride}
 
 -- where party i's values begin
@@ -30,10 +30,10 @@ challengeIn a list u k = getD list (cell a u k) (scalar 0)
 
 -- a list of m elements, or scalars, at the front of 64 places
 unfoldable pub elements : ℕ → (ℕ → Element) → List Element
-elements m f = stored (filled 64 identity) 0 m f
+elements m f = stored (filled mostScalars identity) 0 m f
 
 unfoldable pub scalars : ℕ → (ℕ → Scalar) → List Scalar
-scalars m f = stored (filled 64 (scalar 0)) 0 m f
+scalars m f = stored (filled mostScalars (scalar 0)) 0 m f
 
 -- the points of the members of a set, and their numbers for u, members rising
 unfoldable pub memberPoints : ℕ → ℕ → Row

@@ -9,21 +9,22 @@ use lib.Seq.{getD-append-seam}
 use Rattle.lists.specs.Stores.{stored, filled, stored-none, stored-first, stored-capped, stored-cong, length-filled}
 use Rattle.sets.specs.Masks.{members, count}
 use Rattle.sets.specs.MemberLaws.{members-next, count-none}
+use Rattle.interpolation.specs.Rows.{mostScalars}
 
 -- the array once k values are stored
 abbrev pub front : {A : Type 0} → A → ℕ → (ℕ → A) → List A
-front d k f = stored (filled 64 d) 0 k f
+front d k f = stored (filled mostScalars d) 0 k f
 
 module _ {A : Type 0} (d : A) (f : ℕ → A) where
   -- one value more
   pub front-next : (k : ℕ) {l : List A} {x : A} → l ≡ front d k f → x ≡ f k → set l k x ≡ front d (k + 1) f
-  front-next k e v = ap₂ (λ (r : List A) (y : A). set r k y) e v ∙ sym (stored-first (filled 64 d) k f)
+  front-next k e v = ap₂ (λ (r : List A) (y : A). set r k y) e v ∙ sym (stored-first (filled mostScalars d) k f)
 
   -- as many as there is room for are all
-  pub front-capped : (m : ℕ) {k : ℕ} → k ≡ min m 64 → front d k f ≡ front d m f
+  pub front-capped : (m : ℕ) {k : ℕ} → k ≡ min m mostScalars → front d k f ≡ front d m f
   front-capped m {k} e =
-      let room : k ≡ min m (length (filled 64 d)) = omega (arith, length-filled 64 d) in
-      ap (λ (i : ℕ). front d i f) room ∙ stored-capped (filled 64 d) m f
+      let room : k ≡ min m (length (filled mostScalars d)) = omega (arith, length-filled mostScalars d) in
+      ap (λ (i : ℕ). front d i f) room ∙ stored-capped (filled mostScalars d) m f
 
 -- ---- values of the members of a set, one member a turn
 
@@ -36,9 +37,9 @@ module _ {A : Type 0} (d : A) (g : ℕ → A) where
   chosen-more l x =
       let more = l ++ (x ∷ []) in
       ap (λ (m : ℕ). front d m (λ k. g (getD more k 0))) (length-append l (x ∷ []))
-      ∙ stored-first (filled 64 d) (length l) (λ k. g (getD more k 0))
+      ∙ stored-first (filled mostScalars d) (length l) (λ k. g (getD more k 0))
       ∙ ap₂ (λ (r : List A) (y : ℕ). set r (length l) (g y))
-      (stored-cong (filled 64 d) 0 (length l) _ _ (λ k c. ap g (List·getD-append l (x ∷ []) 0 k c)))
+      (stored-cong (filled mostScalars d) 0 (length l) _ _ (λ k c. ap g (List·getD-append l (x ∷ []) 0 k c)))
       (getD-append-seam l x [] 0)
 
 -- once the parties up to i are passed: m is the number of the members among them, and l has g of each
@@ -46,10 +47,10 @@ abbrev pub Passed : {A : Type 0} → A → (ℕ → A) → (ℕ → Bool) → �
 Passed d g f i m l = (m ≡ count i f) × (l ≡ chosen d g (members i f))
 
 module _ {A : Type 0} (d : A) (g : ℕ → A) (f : ℕ → Bool) where
-  pub passed-none : Passed d g f 0 0 (replicate 64 d)
+  pub passed-none : Passed d g f 0 0 (replicate mostScalars d)
   passed-none = (
     sym (count-none f),
-    stored-none 64 d (λ k. g (getD (members 0 f) k 0)) ∙ ap (λ (m : ℕ). front d m (λ k. g (getD (members 0 f) k 0))) (sym (count-none f)),
+    stored-none mostScalars d (λ k. g (getD (members 0 f) k 0)) ∙ ap (λ (m : ℕ). front d m (λ k. g (getD (members 0 f) k 0))) (sym (count-none f)),
   )
 
   module _ (i : ℕ) {m m′ : ℕ} {l l′ : List A} (h : Passed d g f i m l) where

@@ -3,7 +3,7 @@ ghost use mathlib.Core.Path.{_≡_};
 ghost use Prim.Native.Nat.{_+_, _-_, min};
 ghost use lib.ListN.{getD};
 ghost use Rattle.field.specs.Definitions.{identity, generator, sameElement, raise};
-ghost use Rattle.interpolation.specs.Rows.{productOf};
+ghost use Rattle.interpolation.specs.Rows.{mostScalars, productOf};
 ghost use Rattle.arrays.specs.Arrays.{challengeIn, memberPoints, memberNumbers, elements, scalars};
 use field::Element;
 use field::Scalar;
@@ -23,7 +23,7 @@ pub fn predecessor(u: u8) -> u8
 
 // How many of `count` values a row takes.
 pub fn capped(count: usize) -> usize
-    ensures { λ r. ⌜ r ≡ min count 64 ⌝ }
+    ensures { λ r. ⌜ r ≡ min count mostScalars ⌝ }
 {
     if count < ROW { count } else { ROW }
 }

@@ -12,6 +12,7 @@ use Rattle.lists.specs.Stores.{stored, filled, length-stored, stored-from, stor
 use Rattle.field.specs.declared.Element.{Element}
 use Rattle.field.specs.Definitions.{identity, powered}
 use Rattle.field.specs.ElementLaws.{identity-powered, powered-powered, powered-swap}
+use Rattle.interpolation.specs.Rows.{mostScalars}
 use Rattle.records.specs.Parameters.{stride}
 use Rattle.protocol.specs.Transcript.{exponent}
 use Rattle.protocol.specs.Products.{productOver-cong, exponent-first}
@@ -73,4 +74,4 @@ module _ (n : ℕ) (qual : ℕ → Bool) (list : List Element) (u : ℕ) where
   unfolding elements
   combined-powers m h c p e =
       e ∙ ap (λ (l : List Element). elements m (combinedValue n qual (commitmentIn l) 1)) (p ∙ ap (powersAt n list) c)
-      ∙ stored-cong (filled 64 identity) 0 m _ _ (λ v l. combined-power v (omega arith))
+      ∙ stored-cong (filled mostScalars identity) 0 m _ _ (λ v l. combined-power v (omega arith))

@@ -7,6 +7,7 @@ ghost use lib.Dec.{eqb};
 ghost use lib.Seq.{sets};
 ghost use Rattle.lists.specs.Tests.{pick, allTo};
 ghost use Rattle.field.specs.Definitions.{scalar, isScalar};
+ghost use Rattle.interpolation.specs.Rows.{mostScalars};
 ghost use Rattle.records.specs.Parameters.{inBounds, quorum};
 ghost use Rattle.encoding.specs.Bytes.{fours};
 ghost use Rattle.arrays.specs.Arrays.{scalars};
@@ -30,7 +31,7 @@ fn all_scalars(list: &[u32]) -> bool
 
 // The numbers of a list as scalars.
 fn load_scalars(list: &[u32]) -> [Scalar; ROW]
-    requires { ⌜ length (now list) ≤ 64 ⌝ }
+    requires { ⌜ length (now list) ≤ mostScalars ⌝ }
     ensures { λ r. ⌜ r ≡ scalars (length (now (list .entry))) (λ i. scalar (getD (now (list .entry)) i 0)) ⌝ }
 {
     let count = list.len();

@@ -15,9 +15,13 @@ use Rattle.interpolation.specs.declared.Row.{Row}
 use Rattle.interpolation.specs.declared.Basis.{Basis}
 use Rattle.interpolation.specs.Definitions.{factor, weight, scalarAt, elementAt}
 
+-- the most scalars of a row
+abbrev pub mostScalars : ℕ
+mostScalars = 64
+
 -- how many scalars a row has
 unfoldable pub size : Row → ℕ
-size r = min (r .count) 64
+size r = min (r .count) mostScalars
 
 -- scalar i of a row
 unfoldable pub nth : Row → ℕ → Scalar
@@ -25,7 +29,7 @@ nth r i = getD (r .at) i (scalar 0)
 
 -- the row of f 0, .., f (m - 1), at most 64 of them
 unfoldable pub listed : ℕ → (ℕ → Scalar) → Row
-listed m f = record { at = stored (filled 64 (scalar 0)) 0 (min m 64) f; count = min m 64 }
+listed m f = record { at = stored (filled mostScalars (scalar 0)) 0 (min m mostScalars) f; count = min m mostScalars }
 
 -- the weights at x of a row of points
 unfoldable pub weightsOf : Row → Scalar → Row
@@ -56,29 +60,29 @@ productOf w values = fold product identity (size w) (λ i. raise (getD values i 
 
 -- ---- for callers
 
-pub size-max : (r : Row) → size r ≤ 64
+pub size-max : (r : Row) → size r ≤ mostScalars
 unfolding size
 size-max r = omega arith
 
 -- a listed row has what was listed
-pub nth-listed : (m : ℕ) (f : ℕ → Scalar) (i : ℕ) → i < m → m ≤ 64 → nth (listed m f) i ≡ f i
+pub nth-listed : (m : ℕ) (f : ℕ → Scalar) (i : ℕ) → i < m → m ≤ mostScalars → nth (listed m f) i ≡ f i
 unfolding nth listed
 nth-listed m f i l h =
-    stored-from (filled 64 (scalar 0)) (min m 64) f (scalar 0) (omega (arith, length-filled 64 (scalar 0))) i (omega arith)
+    stored-from (filled mostScalars (scalar 0)) (min m mostScalars) f (scalar 0) (omega (arith, length-filled mostScalars (scalar 0))) i (omega arith)
 
-pub size-listed : (m : ℕ) (f : ℕ → Scalar) → m ≤ 64 → size (listed m f) ≡ m
+pub size-listed : (m : ℕ) (f : ℕ → Scalar) → m ≤ mostScalars → size (listed m f) ≡ m
 unfolding size listed
 size-listed m f h = omega arith
 
 pub listed-cong : (m : ℕ) (f g : ℕ → Scalar) → ((i : ℕ) → i < m → f i ≡ g i) → listed m f ≡ listed m g
 unfolding listed
 listed-cong m f g e =
-    ap (λ (l : List Scalar). record { at = l; count = min m 64 }) (stored-cong (filled 64 (scalar 0)) 0 (min m 64) f g (λ i l. e i (omega arith)))
+    ap (λ (l : List Scalar). record { at = l; count = min m mostScalars }) (stored-cong (filled mostScalars (scalar 0)) 0 (min m mostScalars) f g (λ i l. e i (omega arith)))
 
 -- it is the array with its count
-pub listed-is : (m : ℕ) (f : ℕ → Scalar) → m ≤ 64 → listed m f ≡ record { at = stored (filled 64 (scalar 0)) 0 m f; count = m }
+pub listed-is : (m : ℕ) (f : ℕ → Scalar) → m ≤ mostScalars → listed m f ≡ record { at = stored (filled mostScalars (scalar 0)) 0 m f; count = m }
 unfolding listed
-listed-is m f h = let all : min m 64 ≡ m = omega arith in ap (λ (k : ℕ). record { at = stored (filled 64 (scalar 0)) 0 k f; count = k }) all
+listed-is m f h = let all : min m mostScalars ≡ m = omega arith in ap (λ (k : ℕ). record { at = stored (filled mostScalars (scalar 0)) 0 k f; count = k }) all
 
 -- weights and interpolation go by the points and values below m alone
 pub weight-cong : (pt pt′ : ℕ → Scalar) (m i : ℕ) (x : Scalar) → i < m → ((l : ℕ) → l < m → pt l ≡ pt′ l) → weight pt m i x ≡ weight pt′ m i x
@@ -100,14 +104,14 @@ unfolding elementAt
 elementAt-cong pt pt′ m f g x e v = fold-cong product identity m (λ i c. ap₂ raise (v i c) (weight-cong pt pt′ m i x c e))
 
 -- the weights of a listed row, and what they make of values
-pub weights-listed : (m : ℕ) (pt : ℕ → Scalar) (x : Scalar) → m ≤ 64 → weightsOf (listed m pt) x ≡ listed m (λ i. weight pt m i x)
+pub weights-listed : (m : ℕ) (pt : ℕ → Scalar) (x : Scalar) → m ≤ mostScalars → weightsOf (listed m pt) x ≡ listed m (λ i. weight pt m i x)
 unfolding weightsOf
 weights-listed m pt x h =
     ap (λ (k : ℕ). listed k (λ i. weight (nth (listed m pt)) k i x)) (size-listed m pt h)
     ∙ listed-cong m (λ i. weight (nth (listed m pt)) m i x) (λ i. weight pt m i x) (λ i c. weight-cong (nth (listed m pt)) pt m i x c (λ l d. nth-listed m pt l d h))
 
 pub sum-weights : (m : ℕ) (pt : ℕ → Scalar) (x : Scalar) (values : List Scalar)
-    → m ≤ 64
+    → m ≤ mostScalars
     → sumOf (weightsOf (listed m pt) x) values ≡ scalarAt pt m (λ i. getD values i (scalar 0)) x
 unfolding sumOf scalarAt
 sum-weights m pt x values h =
@@ -116,7 +120,7 @@ sum-weights m pt x values h =
     ∙ fold-cong plus (scalar 0) m (λ i c. ap (λ (w : Scalar). times w (getD values i (scalar 0))) (nth-listed m (λ i. weight pt m i x) i c h))
 
 pub product-weights : (m : ℕ) (pt : ℕ → Scalar) (x : Scalar) (values : List Element)
-    → m ≤ 64
+    → m ≤ mostScalars
     → productOf (weightsOf (listed m pt) x) values ≡ elementAt pt m (λ i. getD values i identity) x
 unfolding productOf elementAt
 product-weights m pt x values h =

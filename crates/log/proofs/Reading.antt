@@ -11,7 +11,7 @@ use Rattle.run.specs.Runs.{fresh}
 use Rattle.run.specs.Steps.{stepOf}
 use Rattle.run.specs.KeepsFormed.{Regular, regular-fresh, regular-step}
 use Rattle.log.specs.Cutting.{runOf, recordsOf}
-use Rattle.log.specs.Report.{refusalLine, refusalLines}
+use Rattle.log.specs.Report.{mostRefusal, refusalLine, refusalLines}
 use Rattle.log.specs.Lengths.{lines-max}
 use Rattle.log.specs.Turns.{nextLength, nextRecord, linesFrom, runFrom, next-pos, next-max, lines-none, lines-next, lines-start, run-none, run-next, run-start}
 
@@ -29,7 +29,7 @@ reading-start log out r e =
 
 module _ {log before after : List ℕ} {r : Run} {from at position : ℕ} (h : Reading log before after r from at position) where
   -- where the next line stands
-  pub reading-place : at ≤ 4 * length log + 32
+  pub reading-place : at ≤ 4 * length log + mostRefusal
   reading-place = omega (arith, h .lines .place, lines-max 1 fresh log regular-fresh)
 
   pub reading-length : length after ≡ length before

@@ -20,7 +20,7 @@ use Rattle.run.specs.declared.Run.{Run}
 use Rattle.run.specs.Steps.{stepOf}
 use Rattle.run.specs.KeepsFormed.{Regular, regular-step}
 use Rattle.log.specs.Cutting.{lengthAt, lengthOf, whole}
-use Rattle.log.specs.Report.{refuseWord, refusalLine}
+use Rattle.log.specs.Report.{refuseWord, mostRefusal, refusalLine}
 use Rattle.log.specs.Turns.{nextLength, nextRecord, nextRest, linesFrom, whole-pos, next-pos, next-max, lines-none, lines-next}
 
 -- ---- a whole record has at least 8 bytes
@@ -51,10 +51,10 @@ next-least r s h = go (whole r s) refl
 
 -- ---- the refusal lines
 
-pub line-most : (position number : ℕ) → length (refusalLine position number) ≤ 32
+pub line-most : (position number : ℕ) → length (refusalLine position number) ≤ mostRefusal
 unfolding refusalLine
 line-most position number =
-    pick-case (λ (l : List ℕ). length l ≤ 32) (eqb number 0) [] (line refuseWord (position ∷ number ∷ [])) (λ e. omega arith)
+    pick-case (λ (l : List ℕ). length l ≤ mostRefusal) (eqb number 0) [] (line refuseWord (position ∷ number ∷ [])) (λ e. omega arith)
     (λ e. omega (arith, line-max refuseWord (position ∷ number ∷ [])))
 
 pub empty-or : (s : List ℕ) → (s ≡ []) ⊎ (0 < length s)
@@ -64,7 +64,7 @@ empty-or (b ∷ s) = inr (omega arith)
 no-lines : (position : ℕ) (r : Run) (s : List ℕ) → s ≡ [] → length (linesFrom position r s) ≡ 0
 no-lines position r s e = ap length (ap (linesFrom position r) e ∙ lines-none position r)
 
-lines-bound : (f position : ℕ) (r : Run) (s : List ℕ) → Regular r → length s ≤ f → length (linesFrom position r s) ≤ 4 * length s + 32
+lines-bound : (f position : ℕ) (r : Run) (s : List ℕ) → Regular r → length s ≤ f → length (linesFrom position r s) ≤ 4 * length s + mostRefusal
 lines-bound zero position r s h l = ⊎-elim (λ e. omega (arith, no-lines position r s e)) (λ p. absurd (omega arith)) (empty-or s)
 lines-bound (suc f) position r s h l =
     let reply = stepOf r (nextRecord r s) in
@@ -78,5 +78,5 @@ lines-bound (suc f) position r s h l =
     (next-least r s h)))
     (empty-or s)
 
-pub lines-max : (position : ℕ) (r : Run) (s : List ℕ) → Regular r → length (linesFrom position r s) ≤ 4 * length s + 32
+pub lines-max : (position : ℕ) (r : Run) (s : List ℕ) → Regular r → length (linesFrom position r s) ≤ 4 * length s + mostRefusal
 lines-max position r s h = lines-bound (length s) position r s h (omega arith)

@@ -22,6 +22,10 @@ longWord = 108 ∷ 111 ∷ 110 ∷ 103 ∷ []
 abbrev pub longest : ℕ
 longest = 65536
 
+-- the most bytes of a refusal's line
+abbrev pub mostRefusal : ℕ
+mostRefusal = 32
+
 -- the line of a record, if it is refused: its position (place, in document 01), counted from 1, and its number
 unfoldable pub refusalLine : ℕ → ℕ → List ℕ
 refusalLine position number = pick (eqb number 0) [] (line refuseWord (position ∷ number ∷ []))

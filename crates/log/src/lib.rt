@@ -9,7 +9,7 @@ ghost use Rattle.text.specs.Texts.{Wrote};
 ghost use Rattle.run.specs.Runs.{fresh};
 ghost use Rattle.closing.specs.Closing.{closing};
 ghost use Rattle.log.specs.Cutting.{lengthOf, recordsOf, runOf};
-ghost use Rattle.log.specs.Report.{refuseWord, longest, refusalLines};
+ghost use Rattle.log.specs.Report.{refuseWord, longest, mostRefusal, refusalLines};
 ghost use Rattle.log.specs.Turns.{nextLength};
 ghost use Rattle.log.specs.Printed.{mostReport, printed};
 use run::Run;
@@ -61,7 +61,7 @@ pub fn next_length(run: Run, rest: &[u8]) -> usize
 
 // The line of a refused record: its position (place, in document 01) and its number.
 fn put_refusal(out: &mut [u8], at: usize, position: u32, number: u8) -> usize
-    requires { ⌜ at + 32 ≤ length (now out) ⌝ }
+    requires { ⌜ at + mostRefusal ≤ length (now out) ⌝ }
     ensures { λ r. ⌜ Wrote (now (out .entry)) (now (out .exit)) at r (line refuseWord (position ∷ number ∷ [])) ⌝ }
 {
     let numbers = [position, number as u32];

@@ -11,7 +11,7 @@ use lib.Bits.{bitOr, or-shifted-r}
 use lib.Dec.{eqb, leb, eqb·zero-suc, eqb·suc-suc}
 use borrow.Author.Tests.{eq-eqb, ne-eqb, le-leb, lt-leb}
 use Rattle.lists.specs.Tests.{pick, pick-case, pick-map, no-both}
-use Rattle.sets.specs.Masks.{bit, has, insert, minus, maskOf}
+use Rattle.sets.specs.Masks.{bit, has, maskBits, insert, minus, maskOf}
 use Rattle.sets.specs.BitLaws.{bit-or, bit-minus, bit-zero, bit-pow, bit-is, bit-high}
 
 -- ---- members
@@ -46,24 +46,24 @@ has-minus a b (suc i) = rw (has-bit (minus a b) i, has-bit a i, has-bit b i) (bi
 
 -- ---- one party more
 
-pub insert-at : (m i : ℕ) → 0 < i → i ≤ 64 → insert m i ≡ bitOr m (2 ^ (i - 1))
+pub insert-at : (m i : ℕ) → 0 < i → i ≤ maskBits → insert m i ≡ bitOr m (2 ^ (i - 1))
 unfolding insert
-insert-at m i p l = rw (le-leb 1 i p, le-leb i 64 l)
+insert-at m i p l = rw (le-leb 1 i p, le-leb i maskBits l)
 
 pub insert-zero : (m : ℕ) → insert m 0 ≡ m
 unfolding insert
 insert-zero m = refl
 
-pub insert-above : (m i : ℕ) → 64 < i → insert m i ≡ m
+pub insert-above : (m i : ℕ) → maskBits < i → insert m i ≡ m
 unfolding insert
-insert-above m i l = rw (lt-leb i 64 l, and-false (leb 1 i))
+insert-above m i l = rw (lt-leb i maskBits l, and-false (leb 1 i))
 
-insert-bit : (m j : ℕ) → j < 64 → insert m (suc j) ≡ bitOr m (2 ^ j)
+insert-bit : (m j : ℕ) → j < maskBits → insert m (suc j) ≡ bitOr m (2 ^ j)
 insert-bit m j l =
     let e : suc j - 1 ≡ j = omega arith in
     insert-at m (suc j) (omega arith) l ∙ ap (λ (k : ℕ). bitOr m (2 ^ k)) e
 
-pub has-insert : (m j i : ℕ) → 0 < j → j ≤ 64 → has (insert m j) i ≡ (has m i || eqb i j)
+pub has-insert : (m j i : ℕ) → 0 < j → j ≤ maskBits → has (insert m j) i ≡ (has m i || eqb i j)
 has-insert m zero i p l = absurd (omega arith)
 has-insert m (suc j) zero p l = has-none (insert m (suc j)) ∙ sym (ap₂ _||_ (has-none m) (eqb·zero-suc j))
 has-insert m (suc j) (suc i) p l = rw (insert-bit m j l, has-bit (bitOr m (2 ^ j)) i, has-bit m i, eqb·suc-suc i j, bit-or m (2 ^ j) i, bit-pow j i)
@@ -126,5 +126,5 @@ pub maskOf-next : (n : ℕ) (f : ℕ → Bool) → maskOf (n + 1) f ≡ maskOf n
 unfolding maskOf
 maskOf-next n f = rw add-one
 
-pub maskOf-insert : (n : ℕ) (f : ℕ → Bool) → n < 64 → maskOf (n + 1) f ≡ pick (f (n + 1)) (insert (maskOf n f) (n + 1)) (maskOf n f)
+pub maskOf-insert : (n : ℕ) (f : ℕ → Bool) → n < maskBits → maskOf (n + 1) f ≡ pick (f (n + 1)) (insert (maskOf n f) (n + 1)) (maskOf n f)
 maskOf-insert n f l = maskOf-next n f ∙ add-or n (maskOf n f) (maskOf-lt n f) (f (n + 1)) ∙ rw (add-one, insert-bit (maskOf n f) n l)

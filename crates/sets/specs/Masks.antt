@@ -16,9 +16,13 @@ bit m (suc i) = bit (m / 2) i
 unfoldable pub has : ℕ → ℕ → Bool
 has m i = leb 1 i && bit m (i - 1)
 
+-- the bits of a mask, and so the most parties of a set
+abbrev pub maskBits : ℕ
+maskBits = 64
+
 -- the set with party i, for i from 1 to 64
 unfoldable pub insert : ℕ → ℕ → ℕ
-insert m i = pick (leb 1 i && leb i 64) (bitOr m (2 ^ (i - 1))) m
+insert m i = pick (leb 1 i && leb i maskBits) (bitOr m (2 ^ (i - 1))) m
 
 -- the parties of a that are not in b
 unfoldable pub minus : ℕ → ℕ → ℕ

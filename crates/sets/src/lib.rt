@@ -3,6 +3,9 @@ ghost use mathlib.Core.Path.{_≡_};
 ghost use lib.Bits.{bitOr};
 ghost use Rattle.sets.specs.Masks.{has, insert, minus, count};
 
+// The bits of a mask, and so the most parties of a set.
+const MASK_BITS: u8 = 64;
+
 // Whether party `i` is in the set.
 pub fn has(mask: u64, i: u8) -> bool
     ensures { λ r. ⌜ r ≡ has mask i ⌝ }
@@ -10,7 +13,7 @@ pub fn has(mask: u64, i: u8) -> bool
     if i == 0 {
         return false;
     }
-    if 64 < i {
+    if MASK_BITS < i {
         return false;
     }
     (mask >> (i - 1)) & 1 == 1
@@ -23,7 +26,7 @@ pub fn insert(mask: u64, i: u8) -> u64
     if i == 0 {
         return mask;
     }
-    if 64 < i {
+    if MASK_BITS < i {
         return mask;
     }
     mask | (1 << (i - 1))
