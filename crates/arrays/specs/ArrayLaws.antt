@@ -4,14 +4,16 @@ use mathlib.Core.List.{List}
 use Prim.Native.Nat.{ℕ, _+_, _-_, _^_, _≤_, _<_}
 use native.Mathlib.Omega.{arith}
 use lib.ListN.{length, getD}
-use Rattle.lists.specs.Stores.{filled, length-filled, length-stored, stored-from}
+use Rattle.lists.specs.Stores.{filled}
+use Rattle.lists.specs.StoreLaws.{length-filled, length-stored, stored-from}
 use Rattle.sets.specs.Masks.{has, members, count}
 use Rattle.sets.specs.MemberLaws.{count-bits}
 use Rattle.field.specs.declared.Scalar.{Scalar}
 use Rattle.field.specs.declared.Element.{Element}
 use Rattle.field.specs.Definitions.{scalar, identity}
 use Rattle.interpolation.specs.Definitions.{party, slot, committedPoint, scalarAt, elementAt}
-use Rattle.interpolation.specs.Rows.{mostScalars, listed, weightsOf, sumOf, productOf, scalarAt-cong, elementAt-cong, sum-weights, product-weights}
+use Rattle.interpolation.specs.Rows.{mostScalars, listed, weightsOf, sumOf, productOf}
+use Rattle.interpolation.specs.RowLaws.{scalarAt-cong, elementAt-cong, sum-weights, product-weights}
 use Rattle.arrays.specs.Arrays.{base, challengeIn, memberPoints, memberNumbers, elements, scalars}
 
 -- sixty-four places

@@ -1,3 +1,3 @@
 pub mod Arrays
 pub mod ArrayLaws
-pub mod Loops
+pub mod LoopLaws

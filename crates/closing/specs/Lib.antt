@@ -1,3 +1,3 @@
 pub mod Closing
-pub mod SignatureRows
-pub mod Lengths
+pub mod SignatureLaws
+pub mod LengthLaws

@@ -8,7 +8,7 @@ ghost use Rattle.text.specs.Texts.{Wrote};
 ghost use Rattle.combination.specs.Combination.{powersAt};
 ghost use Rattle.run.specs.Runs.{wellFormed};
 ghost use Rattle.closing.specs.Closing.{mostLine, mostLines, mostClosing, sigLine, signatureLines, closing};
-ghost use Rattle.closing.specs.SignatureRows.{rowLines};
+ghost use Rattle.closing.specs.SignatureLaws.{rowLines};
 use field::Element;
 use field::Scalar;
 use records::PLACES;

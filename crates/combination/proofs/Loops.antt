@@ -5,7 +5,7 @@ use Prim.Native.Nat.{ℕ, _+_}
 use Rattle.field.specs.declared.Element.{Element}
 use Rattle.field.specs.Definitions.{identity, product, powered}
 use Rattle.field.specs.ElementLaws.{product-powered-one}
-use Rattle.protocol.specs.Products.{productOver-none, productOver-skip, productOver-take, exponent-first}
+use Rattle.protocol.specs.ProductLaws.{productOver-none, productOver-skip, productOver-take, exponent-first}
 use Rattle.combination.specs.Combination.{combinedValue}
 
 -- ---- the product over a set of dealers, one dealer a turn

@@ -1,3 +1,3 @@
 pub mod Combination
-pub mod Combined
-pub mod Powers
+pub mod CombinedLaws
+pub mod PowerLaws

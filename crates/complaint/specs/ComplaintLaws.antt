@@ -11,8 +11,9 @@ use lib.Seq.{getD-set-same, getD-set-other}
 use lib.Bits.{bitOr}
 use lib.Dec.{eqb}
 use borrow.Author.Tests.{eq-eqb, ne-eqb}
-use Rattle.algebra.specs.Fold.{fold, fold-cong, fold-keeps}
-use Rattle.lists.specs.Tests.{pick-case}
+use Rattle.algebra.specs.Fold.{fold}
+use Rattle.algebra.specs.FoldLaws.{fold-cong, fold-keeps}
+use Rattle.lists.specs.TestLaws.{pick-case}
 use Rattle.sets.specs.Masks.{has, insert}
 use Rattle.sets.specs.MaskLaws.{has-none, has-zero, has-or, has-insert}
 use Rattle.records.specs.Parameters.{mostParties}

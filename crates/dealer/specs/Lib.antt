@@ -1,3 +1,3 @@
 pub mod Dealt
-pub mod Fits
-pub mod Valid
+pub mod FitLaws
+pub mod DealtLaws

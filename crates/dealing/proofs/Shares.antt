@@ -13,11 +13,11 @@ use Rattle.interpolation.specs.declared.Row.{Row}
 use Rattle.interpolation.specs.declared.Basis.{Basis}
 use Rattle.interpolation.specs.Definitions.{party, committedPoint}
 use Rattle.interpolation.specs.Rows.{listed, productOf, basisOf, weightsBy}
-use Rattle.interpolation.specs.Bases.{weights-by}
+use Rattle.interpolation.specs.BasisLaws.{weights-by}
 use Rattle.records.specs.Parameters.{inBounds, quorum}
 use Rattle.records.specs.Bytes.{word}
 use Rattle.records.specs.Tags.{sharesFrom}
-use Rattle.records.specs.Laws.{bounds-of, quorum-max}
+use Rattle.records.specs.RecordLaws.{bounds-of, quorum-max}
 use Rattle.protocol.specs.Transcript.{dealingAt, validShare}
 use Rattle.arrays.specs.Arrays.{elements}
 use Rattle.arrays.specs.ArrayLaws.{values-interpolated}

@@ -1,3 +1,3 @@
 pub mod Bytes
 pub mod ByteLaws
-pub mod Stores
+pub mod StoreLaws

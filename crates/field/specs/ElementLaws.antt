@@ -12,10 +12,10 @@ use borrow.Author.Tests.{lt-ltb, ltb-true, eq-eqb, eqb-true}
 use Rattle.field.specs.declared.Scalar.{Scalar}
 use Rattle.field.specs.declared.Element.{Element}
 use Rattle.field.specs.Definitions.{q, P, scalar, element, identity, generator, sameElement, powerTo, powerOf, IsScalar, IsElement, isElement, Below, reduced, plus, times, power, product, powered, raise}
-use Rattle.field.specs.Congruence.{mul-mod, strip, same}
-use Rattle.field.specs.Powers as W
-use Rattle.field.specs.Order as O
-use Rattle.field.specs.Trial.{trial, prime-by-trial}
+use Rattle.field.specs.CongruenceLaws.{mul-mod, strip, same}
+use Rattle.field.specs.PowerLaws as W
+use Rattle.field.specs.OrderLaws as O
+use Rattle.field.specs.TrialLaws.{trial, prime-by-trial}
 use Rattle.field.specs.ScalarLaws.{range, inverses, power-whole}
 
 -- ---- the modulus

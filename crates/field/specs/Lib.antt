@@ -1,7 +1,7 @@
 pub mod Definitions
-pub mod Congruence
-pub mod Powers
-pub mod Trial
-pub mod Order
+pub mod CongruenceLaws
+pub mod PowerLaws
+pub mod TrialLaws
+pub mod OrderLaws
 pub mod ScalarLaws
 pub mod ElementLaws

@@ -10,10 +10,10 @@ use lib.Dec.{lit<}
 use borrow.Author.Tests.{lt-ltb, ltb-true}
 use Rattle.field.specs.declared.Scalar.{Scalar}
 use Rattle.field.specs.Definitions.{q, scalar, isScalar, IsScalar, reduced, plus, minus, times, inverseTo, inverseOf, inverse, power}
-use Rattle.field.specs.Congruence.{congruent, whole, mod-mul-mod, mul-mod-mod, strip, same}
-use Rattle.field.specs.Powers as W
-use Rattle.field.specs.Trial.{trial, prime-by-trial}
-use Rattle.field.specs.Order.{Inverse}
+use Rattle.field.specs.CongruenceLaws.{congruent, whole, mod-mul-mod, mul-mod-mod, strip, same}
+use Rattle.field.specs.PowerLaws as W
+use Rattle.field.specs.TrialLaws.{trial, prime-by-trial}
+use Rattle.field.specs.OrderLaws.{Inverse}
 
 -- ---- the modulus
 

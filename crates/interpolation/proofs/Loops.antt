@@ -5,14 +5,15 @@ use Prim.Native.Nat.{ℕ, _+_, min}
 use native.Mathlib.Nat.{zero-add}
 use borrow.Author.Tests.{eq-eqb, ne-eqb}
 use lib.ListN.{set, replicate}
-use Rattle.algebra.specs.Fold.{fold-zero, fold-next}
-use Rattle.lists.specs.Stores.{stored, filled, stored-next}
+use Rattle.algebra.specs.FoldLaws.{fold-zero, fold-next}
+use Rattle.lists.specs.Stores.{stored, filled}
+use Rattle.lists.specs.StoreLaws.{stored-next}
 use Rattle.field.specs.declared.Scalar.{Scalar}
 use Rattle.field.specs.Definitions.{scalar, minus, times}
 use Rattle.field.specs.ScalarLaws.{times-one}
 use Rattle.interpolation.specs.declared.Row.{Row}
 use Rattle.interpolation.specs.Rows.{listed, differences}
-use Rattle.interpolation.specs.Bases.{product-range}
+use Rattle.interpolation.specs.BasisLaws.{product-range}
 
 -- ---- rows
 

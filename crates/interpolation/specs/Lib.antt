@@ -1,9 +1,10 @@
 pub mod Definitions
-pub mod Structures
-pub mod Laws
-pub mod Polynomials
-pub mod Exponentials
+pub mod StructureLaws
+pub mod PointLaws
+pub mod PolynomialLaws
+pub mod ExponentialLaws
 pub mod Rows
-pub mod Bases
-pub mod Products
-pub mod Turns
+pub mod RowLaws
+pub mod BasisLaws
+pub mod ProductLaws
+pub mod TurnLaws

@@ -3,7 +3,7 @@ ghost use mathlib.Core.Path.{_≡_};
 ghost use Prim.Native.Nat.{_+_};
 ghost use Rattle.interpolation.specs.Definitions.{point, slot, committedPoint};
 ghost use Rattle.interpolation.specs.Rows.{size, nth, listed, weightsOf, scale, basisOf, weightsBy, sumOf, productOf};
-ghost use Rattle.interpolation.specs.Bases.{partialProducts, reversed};
+ghost use Rattle.interpolation.specs.BasisLaws.{partialProducts, reversed};
 use field::Element;
 use field::Scalar;
 

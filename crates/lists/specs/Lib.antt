@@ -1,5 +1,8 @@
 pub mod Members
+pub mod MemberLaws
 pub mod Stores
+pub mod StoreLaws
 pub mod Tests
-pub mod Calls
-pub mod Loads
+pub mod TestLaws
+pub mod CallLaws
+pub mod LoadLaws

@@ -5,15 +5,17 @@ use Prim.Native.Nat.{ℕ, _+_, _*_, _≤_, _<_}
 use native.Mathlib.Omega.{arith}
 use lib.ListN.{length, drop, length-drop, drop-of-length-le}
 use lib.Seq.{drop-drop}
-use Rattle.text.specs.Texts.{Wrote, Ahead, wrote-none, ahead-start, ahead-next, ahead-last, ahead-length}
+use Rattle.text.specs.Texts.{Wrote, Ahead}
+use Rattle.text.specs.TextLaws.{wrote-none, ahead-start, ahead-next, ahead-last, ahead-length}
 use Rattle.run.specs.declared.Run.{Run}
 use Rattle.run.specs.Runs.{fresh}
 use Rattle.run.specs.Steps.{stepOf}
-use Rattle.run.specs.KeepsFormed.{Regular, regular-fresh, regular-step}
+use Rattle.run.specs.FormedLaws.{Regular, regular-fresh, regular-step}
 use Rattle.log.specs.Cutting.{runOf, recordsOf}
 use Rattle.log.specs.Report.{mostRefusal, refusalLine, refusalLines}
-use Rattle.log.specs.Lengths.{lines-max}
-use Rattle.log.specs.Turns.{nextLength, nextRecord, linesFrom, runFrom, next-pos, next-max, lines-none, lines-next, lines-start, run-none, run-next, run-start}
+use Rattle.log.specs.LengthLaws.{lines-max}
+use Rattle.log.specs.Turns.{nextLength, nextRecord, linesFrom, runFrom}
+use Rattle.log.specs.TurnLaws.{next-pos, next-max, lines-none, lines-next, lines-start, run-none, run-next, run-start}
 
 pub record Reading (log before after : List ℕ) (r : Run) (from at position : ℕ) : Type 0 where
   pub within : from ≤ length log

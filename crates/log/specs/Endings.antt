@@ -12,7 +12,8 @@ use lib.ListN.{length, take, drop}
 use lib.Seq.{take-length, drop-length}
 use lib.Dec.{eqb, leb}
 use borrow.Author.Tests.{eqb-true, eqb-false, le-leb, lt-leb, lt-ltb, ne-eqb}
-use Rattle.lists.specs.Tests.{pick, pick-case, require-false, orNext}
+use Rattle.lists.specs.Tests.{pick, orNext}
+use Rattle.lists.specs.TestLaws.{pick-case, require-false}
 use Rattle.records.specs.Bytes.{byteAt}
 use Rattle.records.specs.Tags.{Tag, SU, DE, VE, CH, RE, unknown, code, tagOf, setupLength, dealingLength, complaintLength, challengesLength, responseLength}
 use Rattle.refusals.specs.Refusals.{setupRefusal, headRefusal, dealingRefusal, complaintRefusal, challengesRefusal, responseRefusal}
@@ -26,9 +27,10 @@ use Rattle.run.specs.Runs.{fresh, wellFormed, stageOf}
 use Rattle.run.specs.RunLaws.{stage-none, stage-past}
 use Rattle.run.specs.Steps.{takenAt, atStage, handlerAt, refused, answered, handled, stepOf}
 use Rattle.run.specs.StepLaws.{step-tag, at-stage, off-stage}
-use Rattle.run.specs.Refused.{refusal-keeps}
+use Rattle.run.specs.RefusalLaws.{refusal-keeps}
 use Rattle.log.specs.Cutting.{lengthAt, lengthOf, whole, recordsOf}
-use Rattle.log.specs.Turns.{nextLength, recordsFrom, none-yet, records-none, records-next}
+use Rattle.log.specs.Turns.{nextLength, recordsFrom, Whole, takes, BeforeSetup, Cut}
+use Rattle.log.specs.TurnLaws.{none-yet, records-none, records-next}
 
 -- a whole log is given to a fresh run
 pub records-start : (log : List ℕ) → recordsOf log ≡ recordsFrom fresh log
@@ -36,9 +38,6 @@ unfolding recordsOf recordsFrom
 records-start log = refl
 
 -- ---- a whole record
-
-abbrev pub Whole : Run → List ℕ → Type 0
-Whole r s = (0 < lengthOf r s) × (lengthOf r s ≤ length s)
 
 whole-length : (r : Run) (s : List ℕ) → Whole r s → nextLength r s ≡ lengthOf r s
 unfolding nextLength whole
@@ -104,10 +103,6 @@ unknown-last r s p e = (rest-last r s p (no-length r s (rw e)), unknown-refused 
 
 -- ---- 11: the stage does not take the tag
 
--- the run's stage is the one that takes the record's tag
-abbrev pub takes : Run → List ℕ → Bool
-takes r s = eqb (stageOf r) (takenAt (tagOf s))
-
 other-stage : (k : Tag) (r : Run) → k ≢ unknown → stageOf r ≢ takenAt k → handlerAt k (stageOf r) ≡ Refuse 11
 unfolding handlerAt
 other-stage SU r d e = off-stage SU r TakeSetup e
@@ -122,9 +117,6 @@ unfolding handled
 stage-refused r s d e = step-tag (tagOf s) r s refl ∙ ap (λ (h : Handler). handled h r s) (other-stage (tagOf s) r d e)
 
 -- ---- no setup yet, and a known tag other than SU
-
-abbrev pub BeforeSetup : Run → List ℕ → Type 0
-BeforeSetup r s = (stageOf r ≡ 0) × (tagOf s ≢ unknown) × (tagOf s ≢ SU)
 
 stage-first : (r : Run) → stageOf r ≡ 0 → r .stage ≡ 0
 stage-first r e = go (ℕ-discrete (r .stage) 0)
@@ -151,9 +143,6 @@ before-setup-last r s (e, u, d) = (
 )
 
 -- ---- a cut record: fewer bytes are left than its tag's length, for SU also under 6
-
-abbrev pub Cut : Run → List ℕ → Type 0
-Cut r s = (tagOf s ≢ unknown) × ((length s < lengthOf r s) ⊎ ((tagOf s ≡ SU) × (length s < 6)))
 
 -- a record whose stage takes its tag, and whose handler finds 2
 found-short : (g : Tag) (h : Handler) (r : Run) (s : List ℕ) (k : ℕ) (next : Run) → stageOf r ≡ takenAt g → handled h r s ≡ answered r k next → k ≡ 2

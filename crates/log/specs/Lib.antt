@@ -2,6 +2,7 @@ pub mod Cutting
 pub mod Report
 pub mod Printed
 pub mod Turns
+pub mod TurnLaws
 pub mod Endings
-pub mod Lengths
-pub mod Promised
+pub mod LengthLaws
+pub mod ReportLaws

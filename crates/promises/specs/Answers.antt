@@ -6,59 +6,27 @@ use Prim.Native.Nat.{ℕ, _≤_, _<_}
 use native.Mathlib.Omega.{arith}
 use lib.Dec.{eqb, leb}
 use borrow.Author.Tests.{eqb-true, leb-true, le-leb, lt-leb}
-use Rattle.lists.specs.Tests.{pick, pick-map, and-left}
-use Rattle.sets.specs.Masks.{has}
+use Rattle.lists.specs.Tests.{pick}
+use Rattle.lists.specs.TestLaws.{pick-map, and-left}
 use Rattle.sets.specs.MaskLaws.{has-minus}
 use Rattle.field.specs.declared.Scalar.{Scalar}
 use Rattle.field.specs.declared.Element.{Element}
 use Rattle.protocol.specs.Transcript.{nonce}
-use Rattle.protocol.specs.Alike.{nonce-same}
+use Rattle.protocol.specs.AlikeLaws.{nonce-same}
 use Rattle.answers.specs.declared.Nonce.the-variants as N
 use Rattle.answers.specs.declared.Signature.the-variants as S
 use Rattle.response.specs.Definitions.{transcript}
 use Rattle.run.specs.Runs.{stageOf, transcriptOf, kept}
-use Rattle.answers.specs.Answers.{badOf, unblamedOf, noSets, keptSets, setsOf, inBatch, nonceOf, phiAnswer, nonceValues, phiValues}
+use Rattle.answers.specs.Answers.{badOf, unblamedOf, keptSets, setsOf, inBatch, nonceOf, phiAnswer, nonceValues, phiValues}
 use Rattle.run.specs.Steps.{after}
-use Rattle.promises.specs.Lists.{accepted, hold, bad, qualified, read, phi, stageBy}
-use Rattle.promises.specs.Places.{isPlace, place-of}
+use Rattle.promises.specs.Lists.{accepted, read, stageBy}
+use Rattle.promises.specs.Places.{isPlace}
+use Rattle.promises.specs.PlaceLaws.{place-of}
 use Rattle.complaint.specs.Definitions.{blamedBy, unblamed}
-use Rattle.promises.specs.Made.{made-stage, made-hold, made-bad, made-qual, made-alike}
+use Rattle.promises.specs.MadeLaws.{made-stage, made-hold, made-bad, made-qual, made-alike}
 use Rattle.promises.specs.Stages.{stage-by}
-use Rattle.promises.specs.Finished.{kept-is}
-
--- ---- what is claimed
-
--- of a list of accepted records:
-module _ (l : List (List ℕ)) where
-  -- R(u,k) at stages 3 to 5, at the places of the list
-  unfoldable pub nonceBy : ℕ → ℕ → List Element
-  nonceBy u k = pick ((leb 3 (stageBy l) && leb (stageBy l) 5) && isPlace (read l) u k) (nonce (read l) u k ∷ []) []
-
-  -- φ(u,k) at stage 5, at the places of the list
-  unfoldable pub phiBy : ℕ → ℕ → List Scalar
-  phiBy u k = pick (eqb (stageBy l) 5 && isPlace (read l) u k) (phi l u k ∷ []) []
-
--- HOLD, QUAL and BAD are fixed, and have the members that the accepted records give them
-pub record Fixed (l : List (List ℕ)) : Type 0 where
-  pub fixed : setsOf (after l) .fixed ≡ true
-  pub hold-is : (i : ℕ) → has (setsOf (after l) .hold) i ≡ hold (accepted l) i
-  pub qual-is : (i : ℕ) → has (setsOf (after l) .qual) i ≡ qualified (accepted l) i
-  pub bad-is : (i : ℕ) → has (setsOf (after l) .bad) i ≡ bad (accepted l) i
-
--- they are not fixed, and empty
-abbrev pub Unfixed : List (List ℕ) → Type 0
-Unfixed l = setsOf (after l) ≡ noSets
-
--- the stage is the one that the accepted records bring; the sets are fixed from stage 3 on; and R(u,k) and φ(u,k) are answered where they are
--- due, and nothing elsewhere
-pub record Answers (l : List (List ℕ)) : Type 0 where
-  pub stage : stageOf (after l) ≡ stageBy (accepted l)
-  pub sets : 3 ≤ stageBy (accepted l) → Fixed l
-  pub no-sets : stageBy (accepted l) < 3 → Unfixed l
-  pub nonces : (u k : ℕ) → nonceValues (nonceOf (after l) u k) ≡ nonceBy (accepted l) u k
-  pub phis : (u k : ℕ) → phiValues (phiAnswer (after l) u k) ≡ phiBy (accepted l) u k
-
--- ---- the proof
+use Rattle.promises.specs.FinishedLaws.{kept-is}
+use Rattle.promises.specs.Claims.{Answers, Fixed, Unfixed, nonceBy, phiBy}
 
 -- a choice by two tests, of which the second, and what is chosen, may be put otherwise where the first passes
 choice-same : {A : Type 0} (b c d : Bool) (x y z : A) → (b ≡ true → c ≡ d) → (b ≡ true → d ≡ true → x ≡ y) → pick (b && c) x z ≡ pick (b && d) y z

@@ -9,7 +9,8 @@ use native.Mathlib.Decide.{decLt}
 use lib.ListN.{getD}
 use lib.Dec.{eqb}
 use borrow.Author.Tests.{eqb-true, eqb-false}
-use Rattle.lists.specs.Tests.{pick, allTo, require, one-fails, no-both, orNext}
+use Rattle.lists.specs.Tests.{pick, allTo, require, orNext}
+use Rattle.lists.specs.TestLaws.{one-fails, no-both}
 use Rattle.sets.specs.Masks.{has, maskOf}
 use Rattle.sets.specs.MaskLaws.{has-none, has-maskOf, has-above, has-le, maskOf-lt}
 use Rattle.field.specs.Definitions.{scalar, element}
@@ -30,35 +31,13 @@ use Rattle.run.specs.declared.Handler.the-variants.{TakeSetup, TakeDealing, Tak
 use Rattle.response.specs.Definitions.{transcript, responseNumber}
 use Rattle.writers.specs.Writers.{complaintBytes}
 use Rattle.writers.specs.Accepted.{complaint-mask}
-use Rattle.promises.specs.Lists.{accepted, ofTag, sentBy, recordOf, dealer, hold, read, stageBy}
+use Rattle.promises.specs.Lists.{accepted, ofTag, sentBy, recordOf, dealer, read, stageBy}
 use Rattle.promises.specs.ListLaws.{recordOf-all, recordOf-sender}
-use Rattle.promises.specs.Senders.{has-pos}
-use Rattle.promises.specs.Made.{made-live, made-well-formed, made-hold, made-alike}
+use Rattle.promises.specs.SenderLaws.{has-pos}
+use Rattle.promises.specs.MadeLaws.{made-live, made-well-formed, made-hold, made-alike}
 use Rattle.promises.specs.Stages.{stage-by}
 use Rattle.promises.specs.Answers.{answers}
-
--- ---- what is claimed
-
--- of a list of accepted records:
-module _ (l : List (List ℕ)) where
-  -- the share for j in dealer i's DE is valid
-  unfoldable pub shareValid : ℕ → ℕ → Bool
-  shareValid i j =
-      validShare (read l .t) (read l .a) (read l .commitment i) j (scalar (word (recordOf i (ofTag DE l)) (sharesFrom (read l .t) (read l .a)) (j - 1)))
-
-  -- dealer i has a DE, whose share for j is not valid
-  unfoldable pub wronged : ℕ → ℕ → Bool
-  wronged j i = dealer l i && not (shareValid i j)
-
--- s is a VE at stage 2 that no other number refuses, and blames a dealer with no accepted DE, or one whose share for its sender is valid
-pub record FalseComplaint (l : List (List ℕ)) (s : List ℕ) : Type 0 where
-  pub tag : tagOf s ≡ VE
-  pub stage : stageBy (accepted l) ≡ 2
-  pub formed : complaintRefusal (read (accepted l) .n) s ≡ 0
-  pub new : hold (accepted l) (sender s) ≡ false
-  pub blamed : ℕ
-  pub blames : has (numberAt s 4) blamed ≡ true
-  pub unfounded : wronged (accepted l) (sender s) blamed ≡ false
+use Rattle.promises.specs.Claims.{FalseComplaint, shareValid, wronged}
 
 -- ---- the kept wrong shares are those of the accepted DE
 

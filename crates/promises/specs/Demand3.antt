@@ -1,53 +1,17 @@
 -- Demand 3 (document 01, "The run"): one claim about whole lists of records. Assumes nothing.
 use mathlib.Core.Path.{_≡_, sym, _∙_}
-use mathlib.Core.Bool.{true}
 use mathlib.Core.List.{List}
-use Prim.Native.Nat.{ℕ, _-_, _≤_}
+use Prim.Native.Nat.{ℕ}
 use native.Mathlib.Omega.{arith}
-use lib.ListN.{length}
-use Rattle.lists.specs.Members.{All, Distinct}
-use Rattle.sets.specs.Masks.{count}
-use Rattle.field.specs.Definitions.{generator, IsScalar, product, raise}
 use Rattle.field.specs.ElementLaws.{generator-unique}
-use Rattle.records.specs.Parameters.{quorum}
-use Rattle.records.specs.Bytes.{sender}
-use Rattle.records.specs.Tags.{SU, DE, VE, CH, RE}
-use Rattle.protocol.specs.Transcript.{nonce}
 use Rattle.protocol.specs.Alike.{Alike}
 use Rattle.run.specs.Runs.{kept}
 use Rattle.run.specs.Steps.{after}
-use Rattle.promises.specs.Lists.{accepted, ofTag, hold, bad, read, phi}
-use Rattle.promises.specs.Places.{Within, within-same}
-use Rattle.promises.specs.Made.{made-live, made-dealings, made-dealers-differ, made-complaints, made-holders-differ, made-few-bad}
-use Rattle.promises.specs.Finished.{equation-same, rows-number, rows-differ, rows-held, kept-is, phi-range, phi-verifies}
-
--- ---- what is claimed
-
--- (u,k) is a place of the list: u from 1 to b, k from 1 to a, with n, t, a of its accepted SU
-abbrev pub Place : List (List ℕ) → ℕ → ℕ → Type 0
-Place l u k = Within (read (accepted l)) u k
-
--- the run keeps φ(u,k) of the accepted RE; it is a scalar; and 4^φ(u,k) = R(u,k) × S^e(u,k)
-pub record Signed (l : List (List ℕ)) (u k : ℕ) : Type 0 where
-  pub keeps : kept (after l) u k ≡ phi (accepted l) u k
-  pub below : IsScalar (phi (accepted l) u k)
-  pub verifies : raise generator (phi (accepted l) u k) ≡ product (nonce (read (accepted l)) u k) (raise (read (accepted l) .key 0) (read (accepted l) .challenge u k))
-
--- what has been accepted: one SU; n-t DE from different dealers; n-t VE from different holders, with at most t dealers in BAD; one CH; and need RE
--- from different members of HOLD
-pub record Rows (l : List (List ℕ)) : Type 0 where
-  pub setups : length (ofTag SU (accepted l)) ≡ 1
-  pub dealings : length (ofTag DE (accepted l)) ≡ read (accepted l) .n - read (accepted l) .t
-  pub dealers-differ : Distinct sender (ofTag DE (accepted l))
-  pub complaints : length (ofTag VE (accepted l)) ≡ read (accepted l) .n - read (accepted l) .t
-  pub holders-differ : Distinct sender (ofTag VE (accepted l))
-  pub few-bad : count (read (accepted l) .n) (bad (accepted l)) ≤ read (accepted l) .t
-  pub challenges : length (ofTag CH (accepted l)) ≡ 1
-  pub responses : length (ofTag RE (accepted l)) ≡ quorum (read (accepted l) .t) (read (accepted l) .a)
-  pub responders-differ : Distinct sender (ofTag RE (accepted l))
-  pub responders-held : All (λ s. hold (accepted l) (sender s) ≡ true) (ofTag RE (accepted l))
-
--- ---- the proof
+use Rattle.promises.specs.Lists.{accepted, read, phi}
+use Rattle.promises.specs.PlaceLaws.{within-same}
+use Rattle.promises.specs.MadeLaws.{made-live, made-dealings, made-dealers-differ, made-complaints, made-holders-differ, made-few-bad}
+use Rattle.promises.specs.FinishedLaws.{equation-same, rows-number, rows-differ, rows-held, kept-is, phi-range, phi-verifies}
+use Rattle.promises.specs.Claims.{Place, Rows, Signed}
 
 module _ (l : List (List ℕ)) (e : after l .stage ≡ 5) where
   rows : Rows l

@@ -6,7 +6,8 @@ use mathlib.Core.List.{List, [], _∷_, _++_}
 use Prim.Native.Nat.{ℕ}
 use lib.Dec.{eqb}
 use borrow.Author.Tests.{eqb-true, eqb-false, eq-eqb, ne-eqb}
-use Rattle.lists.specs.Tests.{pick, pick-case, no-both}
+use Rattle.lists.specs.Tests.{pick}
+use Rattle.lists.specs.TestLaws.{pick-case, no-both}
 use Rattle.lists.specs.Members.{All}
 use Rattle.records.specs.Bytes.{sender}
 use Rattle.records.specs.Tags.{Tag, code, tagOf}

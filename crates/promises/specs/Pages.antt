@@ -16,7 +16,7 @@ use Rattle.field.specs.declared.Element.{Element}
 use Rattle.field.specs.Definitions.{generator, product, raise}
 use Rattle.records.specs.Parameters.{batch}
 use Rattle.protocol.specs.Transcript.{nonce}
-use Rattle.protocol.specs.Alike.{nonce-same}
+use Rattle.protocol.specs.AlikeLaws.{nonce-same}
 use Rattle.response.specs.Definitions.{transcript}
 use Rattle.run.specs.Runs.{fresh, stageOf, transcriptOf, kept}
 use Rattle.run.specs.Steps.{after}
@@ -25,41 +25,15 @@ use Rattle.log.specs.Cutting.{recordsOf, runOf}
 use Rattle.text.specs.Lines.{feed, line, setText, setLine}
 use Rattle.closing.specs.Closing.{holdWord, qualWord, badWord, endWord, sigLine, signatureLine, signatureLines, closing}
 use Rattle.log.specs.Report.{longWord, longest, refusalLines, reportOf}
-use Rattle.promises.specs.Lists.{accepted, hold, bad, qualified, read, phi, stageBy}
-use Rattle.promises.specs.Places.{place-at}
-use Rattle.promises.specs.Made.{made-live, made-alike}
+use Rattle.promises.specs.Lists.{accepted, hold, bad, qualified, read, stageBy}
+use Rattle.promises.specs.PlaceLaws.{place-at}
+use Rattle.promises.specs.MadeLaws.{made-live, made-alike}
 use Rattle.promises.specs.Stages.{stage-by}
-use Rattle.promises.specs.Invariant.{live-bounds}
-use Rattle.promises.specs.Finished.{kept-is}
-use Rattle.promises.specs.Demand3.{Place, demand-3}
+use Rattle.promises.specs.InvariantLaws.{live-bounds}
+use Rattle.promises.specs.FinishedLaws.{kept-is}
+use Rattle.promises.specs.Demand3.{demand-3}
+use Rattle.promises.specs.Claims.{Place, closingOf, membersLine, signedLines}
 use Rattle.promises.specs.Answers.{answers}
-
--- ---- what is claimed
-
--- of a list of accepted records:
-module _ (l : List (List ℕ)) where
-  -- the members of a set, rising; none before the sets are fixed
-  unfoldable pub membersLine : List ℕ → (ℕ → Bool) → List ℕ
-  membersLine word set = word ++ (setText (pick (leb 3 (stageBy l)) (members (read l .n) set) []) ++ (feed ∷ []))
-
-  -- the lines `sig u k R φ` numbered below m, u outer
-  unfoldable pub signedLines : ℕ → List ℕ
-  signedLines zero = []
-  signedLines (suc x) =
-      let u = x / read l .a + 1 in
-      let k = x % read l .a + 1 in
-      signedLines x ++ sigLine u k (nonce (read l) u k) (phi l u k)
-
-  -- the sets, at stage 5 every signature, and the stage
-  unfoldable pub closingOf : List ℕ
-  closingOf =
-      membersLine holdWord (hold l)
-      ++ (membersLine qualWord (qualified l)
-      ++ (membersLine badWord (bad l)
-      ++ (pick (eqb (stageBy l) 5) (signedLines (read l .a * batch (read l .n) (read l .t))) []
-      ++ line endWord (stageBy l ∷ []))))
-
--- ---- the proof
 
 -- an empty set has no members
 members-none : (s n : ℕ) → membersFrom (has 0) s n ≡ []

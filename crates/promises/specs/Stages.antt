@@ -12,8 +12,8 @@ use Rattle.response.specs.Definitions.{transcript}
 use Rattle.run.specs.Runs.{transcriptOf}
 use Rattle.run.specs.Steps.{after}
 use Rattle.promises.specs.Lists.{accepted, ofTag, read, unset, dealing, complaining, stopped, unchallenged, responding, stageBy}
-use Rattle.promises.specs.InvariantSteps.{invariant-after}
-use Rattle.promises.specs.Made.{made-live, made-alike, made-dealings, made-complaints, made-few-bad, made-many-bad, read-count}
+use Rattle.promises.specs.InvariantStepLaws.{invariant-after}
+use Rattle.promises.specs.MadeLaws.{made-live, made-alike, made-dealings, made-complaints, made-few-bad, made-many-bad, read-count}
 
 module _ (l : List (List ℕ)) where
   abbrev n : ℕ

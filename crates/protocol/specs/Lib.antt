@@ -1,4 +1,5 @@
 pub mod Transcript
-pub mod Products
+pub mod ProductLaws
 pub mod Alike
+pub mod AlikeLaws
 pub mod Signature

@@ -10,12 +10,12 @@ use Rattle.field.specs.declared.Element.{Element}
 use Rattle.field.specs.Definitions.{generator, IsElement, product, raise}
 use Rattle.field.specs.ElementLaws.{generator-element, raise-reduced}
 use Rattle.interpolation.specs.Definitions.{party, slot, committedPoint, scalarAt}
-use Rattle.interpolation.specs.Laws.{committed-distinct, slots-distinct, parties-distinct, slot-committed, elementAt-point, scalarAt-reduced, raise-scalarAt}
-use Rattle.interpolation.specs.Polynomials.{polynomial-interpolated}
-use Rattle.interpolation.specs.Exponentials.{Exponential, exponential-wider, exponential-interpolated, exponential-product, exponential-raise, exponential-powered, exponential-pick, exponential-fold, exact-elements}
-use Rattle.interpolation.specs.Rows.{elementAt-cong}
+use Rattle.interpolation.specs.PointLaws.{committed-distinct, slots-distinct, parties-distinct, slot-committed, elementAt-point, scalarAt-reduced, raise-scalarAt}
+use Rattle.interpolation.specs.PolynomialLaws.{polynomial-interpolated}
+use Rattle.interpolation.specs.ExponentialLaws.{Exponential, exponential-wider, exponential-interpolated, exponential-product, exponential-raise, exponential-powered, exponential-pick, exponential-fold, exact-elements}
+use Rattle.interpolation.specs.RowLaws.{elementAt-cong}
 use Rattle.records.specs.Parameters.{quorum}
-use Rattle.records.specs.Laws.{Bounds, quorum-is}
+use Rattle.records.specs.RecordLaws.{Bounds, quorum-is}
 use Rattle.protocol.specs.Transcript.{Transcript, dealingAt, keyAt, exponent, productOver, combinedAt, nonce, challengeAt, responseAt, dealerFactor}
 
 -- what a run at stage 4 keeps: parameters within the bounds, a key and commitments of QUAL that are elements

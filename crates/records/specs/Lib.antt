@@ -1,4 +1,4 @@
 pub mod Parameters
 pub mod Bytes
 pub mod Tags
-pub mod Laws
+pub mod RecordLaws

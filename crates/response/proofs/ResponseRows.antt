@@ -4,7 +4,8 @@ use mathlib.Core.Bool.{Bool}
 use mathlib.Core.List.{List}
 use Prim.Native.Nat.{ℕ, _+_, _^_, _≤_, _<_}
 use native.Mathlib.Omega.{arith}
-use Rattle.lists.specs.Tests.{allTo, all-cong}
+use Rattle.lists.specs.Tests.{allTo}
+use Rattle.lists.specs.TestLaws.{all-cong}
 use Rattle.sets.specs.Masks.{has}
 use Rattle.field.specs.declared.Scalar.{Scalar}
 use Rattle.field.specs.declared.Element.{Element}
@@ -12,10 +13,10 @@ use Rattle.field.specs.Definitions.{scalar, generator, product, raise, sameElem
 use Rattle.interpolation.specs.declared.Row.{Row}
 use Rattle.interpolation.specs.Definitions.{party, slot, committedPoint}
 use Rattle.interpolation.specs.Rows.{listed, weightsOf, sumOf, productOf}
-use Rattle.interpolation.specs.Turns.{first, first-weights}
+use Rattle.interpolation.specs.TurnLaws.{first, first-weights}
 use Rattle.records.specs.Parameters.{quorum, batch}
 use Rattle.records.specs.Bytes.{word, sender}
-use Rattle.records.specs.Laws.{Bounds, key-max}
+use Rattle.records.specs.RecordLaws.{Bounds, key-max}
 use Rattle.protocol.specs.Transcript.{keyAt, challengeAt, responseAt, passes}
 use Rattle.arrays.specs.Arrays.{commitmentIn, challengeIn, memberPoints, memberNumbers, elements, scalars}
 use Rattle.combination.specs.Combination.{combinedValue}

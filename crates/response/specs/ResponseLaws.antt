@@ -7,14 +7,15 @@ use Rattle.sets.specs.Masks.{has}
 use Rattle.sets.specs.MaskLaws.{has-minus}
 use Rattle.field.specs.declared.Scalar.{Scalar}
 use Rattle.interpolation.specs.Definitions.{committedPoint}
-use Rattle.interpolation.specs.Rows.{listed, weightsOf, productOf, elementAt-cong}
+use Rattle.interpolation.specs.Rows.{listed, weightsOf, productOf}
+use Rattle.interpolation.specs.RowLaws.{elementAt-cong}
 use Rattle.records.specs.Parameters.{quorum}
-use Rattle.records.specs.Laws.{Bounds, quorum-max}
+use Rattle.records.specs.RecordLaws.{Bounds, quorum-max}
 use Rattle.protocol.specs.Transcript.{combinedAt}
 use Rattle.arrays.specs.Arrays.{commitmentIn, elements}
 use Rattle.combination.specs.Combination.{combinedValue}
 use Rattle.arrays.specs.ArrayLaws.{values-interpolated}
-use Rattle.combination.specs.Combined.{combined-values, combinedValue-same}
+use Rattle.combination.specs.CombinedLaws.{combined-values, combinedValue-same}
 use Rattle.dealing.specs.declared.Setup.{Setup}
 use Rattle.dealing.specs.declared.Dealings.{Dealings}
 use Rattle.complaint.specs.declared.Complaints.{Complaints}

@@ -3,7 +3,7 @@ use mathlib.Core.Path.{_≡_, sym, ap, _∙_}
 use mathlib.Core.Bool.{Bool}
 use Prim.Native.Nat.{ℕ}
 use Rattle.lists.specs.Tests.{pick}
-use Rattle.lists.specs.Calls.{is, is-not}
+use Rattle.lists.specs.CallLaws.{is, is-not}
 use Rattle.run.specs.declared.Run.{Run}
 use Rattle.run.specs.declared.Reply.{Reply}
 use Rattle.run.specs.Steps.{refused, answered}

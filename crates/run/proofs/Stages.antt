@@ -6,9 +6,9 @@ use Prim.Native.Nat.{ℕ, _<_}
 use native.Mathlib.Omega.{arith}
 use lib.Dec.{eqb}
 use borrow.Author.Tests.{eqb-true}
-use Rattle.lists.specs.Tests.{pick-case}
+use Rattle.lists.specs.TestLaws.{pick-case}
 use Rattle.records.specs.Tags.{Tag, SU, DE, VE, CH, RE, unknown, code, decoded, tagOf}
-use Rattle.records.specs.Laws.{decoded-code}
+use Rattle.records.specs.RecordLaws.{decoded-code}
 use Rattle.run.specs.declared.Run.{Run}
 use Rattle.run.specs.declared.Handler.{Handler}
 use Rattle.run.specs.declared.Handler.the-variants.{TakeSetup, TakeDealing, TakeComplaint, TakeChallenges, TakeResponse, Refuse}

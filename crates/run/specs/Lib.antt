@@ -2,5 +2,5 @@ pub mod Runs
 pub mod RunLaws
 pub mod Steps
 pub mod StepLaws
-pub mod Refused
-pub mod KeepsFormed
+pub mod RefusalLaws
+pub mod FormedLaws

@@ -10,7 +10,8 @@ use native.Mathlib.Decide.{ℕ-discrete, decLe}
 use lib.Bits.{bitOr, or-shifted-r}
 use lib.Dec.{eqb, leb, eqb·zero-suc, eqb·suc-suc}
 use borrow.Author.Tests.{eq-eqb, ne-eqb, le-leb, lt-leb}
-use Rattle.lists.specs.Tests.{pick, pick-case, pick-map, no-both}
+use Rattle.lists.specs.Tests.{pick}
+use Rattle.lists.specs.TestLaws.{pick-case, pick-map, no-both}
 use Rattle.sets.specs.Masks.{bit, has, maskBits, insert, minus, maskOf}
 use Rattle.sets.specs.BitLaws.{bit-or, bit-minus, bit-zero, bit-pow, bit-is, bit-high}
 

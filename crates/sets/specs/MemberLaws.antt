@@ -11,8 +11,10 @@ use native.Mathlib.Decide.{ℕ-discrete}
 use lib.ListN.{length, length-append}
 use lib.Dec.{eqb}
 use borrow.Author.Tests.{eq-eqb, ne-eqb}
-use Rattle.lists.specs.Tests.{pick, pick-case, pick-map}
-use Rattle.lists.specs.Members.{All, all-map, Distinct}
+use Rattle.lists.specs.Tests.{pick}
+use Rattle.lists.specs.TestLaws.{pick-case, pick-map}
+use Rattle.lists.specs.Members.{All, Distinct}
+use Rattle.lists.specs.MemberLaws.{all-map}
 use Rattle.sets.specs.Masks.{has, membersFrom, members, count}
 use Rattle.sets.specs.MaskLaws.{has-le}
 

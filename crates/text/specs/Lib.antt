@@ -1,3 +1,4 @@
 pub mod Lines
 pub mod LineLaws
 pub mod Texts
+pub mod TextLaws

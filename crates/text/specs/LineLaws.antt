@@ -9,7 +9,8 @@ use lib.ListN.{length, take, getD, length-append}
 use lib.Seq.{take-suc}
 use lib.Dec.{ltb}
 use borrow.Author.Tests.{lt-ltb}
-use Rattle.lists.specs.Tests.{pick, pick-case}
+use Rattle.lists.specs.Tests.{pick}
+use Rattle.lists.specs.TestLaws.{pick-case}
 use Rattle.sets.specs.Masks.{has, members}
 use Rattle.sets.specs.MemberLaws.{count-le}
 use Rattle.text.specs.Texts.{Wrote}

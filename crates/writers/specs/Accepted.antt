@@ -6,7 +6,7 @@ use Prim.Native.Nat.{ℕ, _+_, _<_}
 use native.Mathlib.Omega.{arith}
 use borrow.Author.Tests.{le-ltb}
 use lib.ListN.{length}
-use Rattle.lists.specs.Tests.{all-make, require-pass, next-pass}
+use Rattle.lists.specs.TestLaws.{all-make, require-pass, next-pass}
 use Rattle.sets.specs.Masks.{has, maskOf}
 use Rattle.sets.specs.MaskLaws.{maskOf-lt, has-maskOf}
 use Rattle.field.specs.Definitions.{scalar, generator, IsScalar, raise}
@@ -19,7 +19,7 @@ use Rattle.refusals.specs.RefusalLaws.{complaint-passes, response-passes}
 use Rattle.encoding.specs.ByteLaws.{length-fours, word-last, number-at}
 use Rattle.protocol.specs.Transcript.{keyAt}
 use Rattle.dealer.specs.Dealt.{setupRefused, setupBytes, dealingRefused, dealingBytes}
-use Rattle.dealer.specs.Valid.{setup-unrefused, dealing-unrefused}
+use Rattle.dealer.specs.DealtLaws.{setup-unrefused, dealing-unrefused}
 use Rattle.dealing.specs.Definitions.{keyIn, dealingNumber, mayBlame}
 use Rattle.complaint.specs.Definitions.{complaintNumber}
 use Rattle.response.specs.Definitions.{transcript, responseNumber}
@@ -28,9 +28,9 @@ use Rattle.run.specs.declared.Reply.{Reply}
 use Rattle.run.specs.Runs.{fresh, begun, wellFormed, stageOf, transcriptOf}
 use Rattle.run.specs.Steps.{takenAt, atStage, handlerAt, handled, stepOf}
 use Rattle.run.specs.StepLaws.{step-taken, answered-number}
-use Rattle.writers.specs.Writers.{complaintRefused, complaintBytes, responseRefused, responseFor, responseBytes}
+use Rattle.writers.specs.Writers.{ValidShares, complaintRefused, complaintBytes, responseRefused, responseFor, responseBytes}
 use Rattle.writers.specs.WriterLaws.{complaint-fits, mask-lt, response-fits}
-use Rattle.writers.specs.Honest.{ValidShares, number-passes}
+use Rattle.writers.specs.HonestLaws.{number-passes}
 
 -- the tag is the first two bytes
 tag-first : (x y : ℕ) (rest : List ℕ) → tagOf (x ∷ y ∷ rest) ≡ tagOf (x ∷ y ∷ [])

@@ -1,4 +1,4 @@
 pub mod Writers
 pub mod WriterLaws
-pub mod Honest
+pub mod HonestLaws
 pub mod Accepted

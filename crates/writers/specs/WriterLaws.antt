@@ -9,11 +9,11 @@ use native.Mathlib.Nat.{le-trans}
 use lib.Pow.{pow-mono}
 use lib.ListN.{length}
 use borrow.Author.Tests.{eqb-true}
-use Rattle.lists.specs.Tests.{passed}
+use Rattle.lists.specs.TestLaws.{passed}
 use Rattle.sets.specs.Masks.{has, maskOf}
 use Rattle.sets.specs.MaskLaws.{has-minus, maskOf-lt}
 use Rattle.records.specs.Tags.{complaintLength, responseLength}
-use Rattle.records.specs.Laws.{party-of}
+use Rattle.records.specs.RecordLaws.{party-of}
 use Rattle.dealing.specs.Definitions.{mayBlame}
 use Rattle.complaint.specs.Definitions.{blamedBy, unblamed}
 use Rattle.response.specs.Definitions.{transcript}

@@ -1,6 +1,7 @@
 -- What an honest holder's VE and RE are, and when their writers refuse (document 01, "The writers make ..").
-use Prim.Native.Nat.{ℕ, _+_}
-use mathlib.Core.Bool.{Bool, not, _&&_, _||_}
+use mathlib.Core.Path.{_≡_}
+use Prim.Native.Nat.{ℕ, _+_, _-_, _≤_, _<_}
+use mathlib.Core.Bool.{Bool, true, not, _&&_, _||_}
 use mathlib.Core.List.{List, _∷_}
 use lib.ListN.{length, getD}
 use lib.Dec.{eqb}
@@ -13,7 +14,7 @@ use Rattle.interpolation.specs.Definitions.{party}
 use Rattle.records.specs.Parameters.{batch, isParty}
 use Rattle.records.specs.Tags.{letterE, letterR, letterV, complaintLength, responseLength}
 use Rattle.encoding.specs.Bytes.{four, fours}
-use Rattle.protocol.specs.Transcript.{coefficient, challengeAt}
+use Rattle.protocol.specs.Transcript.{Transcript, validShare, coefficient, challengeAt}
 use Rattle.run.specs.declared.Run.{Run}
 use Rattle.run.specs.Runs.{stageOf, transcriptOf}
 use Rattle.dealing.specs.Definitions.{mayBlame}
@@ -58,3 +59,7 @@ responseFor r j key shares u =
 unfoldable pub responseBytes : Run → ℕ → ℕ → List ℕ → List ℕ
 responseBytes r j key shares =
     letterR ∷ letterE ∷ j ∷ 0 ∷ fours (batch (r .setup .n) (r .setup .t)) (λ u. responseFor r j key shares (u + 1) .0)
+
+-- the shares of QUAL are valid (document 01: right) for holder j
+abbrev pub ValidShares : Transcript → ℕ → List ℕ → Type 0
+ValidShares w j shares = (i : ℕ) → 0 < i → i ≤ w .n → w .qual i ≡ true → validShare (w .t) (w .a) (w .commitment i) j (scalar (getD shares (i - 1) 0)) ≡ true

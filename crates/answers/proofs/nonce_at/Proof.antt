@@ -1,11 +1,11 @@
 -- `nonce_at` meets its contract: each test settles one factor of the definition. Assumes nothing.
 use native.Mathlib.Omega.{arith}
 use borrow.Author.Tests.{le-leb, lt-leb}
-use Rattle.lists.specs.Calls.{holds, fails}
+use Rattle.lists.specs.CallLaws.{holds, fails}
 use Prim.Native.Nat.{_≤_, _<_}
 use mathlib.Core.Path.{refl, sym, ap, _∙_}
-use Rattle.interpolation.specs.Laws.{slot-is}
-use Rattle.records.specs.Laws.{bounds-test}
+use Rattle.interpolation.specs.PointLaws.{slot-is}
+use Rattle.records.specs.RecordLaws.{bounds-test}
 use Rattle.protocol.specs.Transcript.{nonce, combinedAt}
 use Rattle.answers.specs.declared.Nonce.the-variants as N
 use Rattle.run.specs.Runs.{stageOf, transcriptOf}

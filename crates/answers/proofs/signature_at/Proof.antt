@@ -8,9 +8,9 @@ use mathlib.Core.Path.{_≡_, refl, sym, _∙_}
 use mathlib.Core.Bool.{true, false, and-eq-true-iff}
 use lib.Arith.{digits-lt}
 use lib.Dec.{eqb}
-use Rattle.lists.specs.Calls.{holds, fails, is-not}
+use Rattle.lists.specs.CallLaws.{holds, fails, is-not}
 use Rattle.records.specs.Parameters.{batch}
-use Rattle.records.specs.Laws.{cells-max}
+use Rattle.records.specs.RecordLaws.{cells-max}
 use Rattle.arrays.specs.Arrays.{cell}
 use Rattle.run.specs.declared.Run.{Run}
 use Rattle.run.specs.Runs.{stageOf, kept}

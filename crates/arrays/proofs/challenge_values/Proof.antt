@@ -7,10 +7,10 @@ use mathlib.Core.Path.{_≡_, sym, ap, ap₂, _∙_}
 use Prim.Native.Nat.{ℕ, _+_, _-_, _*_, _≤_, min}
 use lib.ListN.{length, getD, List·getD-eq-default}
 use Rattle.field.specs.declared.Scalar.{Scalar}
-use Rattle.lists.specs.Stores.{stored-none}
+use Rattle.lists.specs.StoreLaws.{stored-none}
 use Rattle.field.specs.Definitions.{scalar}
 use Rattle.arrays.specs.Arrays.{cell, challengeIn, scalars}
-use Rattle.arrays.specs.Loops.{front, front-next, front-capped}
+use Rattle.arrays.specs.LoopLaws.{front, front-next, front-capped}
 use Rattle.arrays.proofs.challenge_values.Statement.{statement}
 use Rattle.arrays.proofs.challenge_values.Tie as tie
 

@@ -5,11 +5,11 @@ use mathlib.Core.Logic.{⊎-elim}
 use mathlib.Core.Path.{_≡_, sym, ap, _∙_}
 use Prim.Native.Nat.{ℕ, _+_, _-_, _≤_, min}
 use lib.ListN.{length, getD, List·getD-eq-default}
-use Rattle.lists.specs.Stores.{stored-none, getD-default}
+use Rattle.lists.specs.StoreLaws.{stored-none, getD-default}
 use Rattle.field.specs.declared.Element.{Element}
 use Rattle.field.specs.Definitions.{identity}
 use Rattle.arrays.specs.Arrays.{elements}
-use Rattle.arrays.specs.Loops.{front, front-next, front-capped}
+use Rattle.arrays.specs.LoopLaws.{front, front-next, front-capped}
 use Rattle.arrays.proofs.key_values.Statement.{statement}
 use Rattle.arrays.proofs.key_values.Tie as tie
 

@@ -11,7 +11,7 @@ use Rattle.sets.specs.MemberLaws.{count-before}
 use Rattle.field.specs.declared.Scalar.{Scalar}
 use Rattle.field.specs.Definitions.{scalar}
 use Rattle.arrays.specs.Arrays.{base, memberNumbers, scalars}
-use Rattle.arrays.specs.Loops.{chosen, Passed, passed-none, passed-skip, passed-take}
+use Rattle.arrays.specs.LoopLaws.{chosen, Passed, passed-none, passed-skip, passed-take}
 use Rattle.arrays.proofs.member_numbers.Statement.{statement}
 use Rattle.arrays.proofs.member_numbers.Tie as tie
 

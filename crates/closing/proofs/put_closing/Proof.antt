@@ -10,12 +10,13 @@ use lib.Dec.{eqb}
 use lib.ListN.{length}
 use Rattle.lists.specs.Tests.{pick}
 use Rattle.records.specs.Parameters.{batch}
-use Rattle.text.specs.Texts.{Wrote, wrote-none, wrote-length, wrote-append}
+use Rattle.text.specs.Texts.{Wrote}
+use Rattle.text.specs.TextLaws.{wrote-none, wrote-length, wrote-append}
 use Rattle.text.specs.LineLaws.{set-place}
 use Rattle.run.specs.Runs.{stageOf}
 use Rattle.run.specs.RunLaws.{stage-live}
 use Rattle.closing.specs.Closing.{signatureLines, closing}
-use Rattle.closing.specs.Lengths.{signed-max}
+use Rattle.closing.specs.LengthLaws.{signed-max}
 use Rattle.closing.proofs.put_closing.Statement.{statement}
 use Rattle.closing.proofs.put_closing.Tie as tie
 

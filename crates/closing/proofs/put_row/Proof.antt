@@ -4,15 +4,16 @@ use Prim.Native.Nat.{_+_, _*_, _-_, _≤_, _<_}
 use native.Mathlib.Omega.{arith}
 use borrow.Author.Needs.{needs}
 use lib.ListN.{length}
-use Rattle.interpolation.specs.Laws.{slot-is}
-use Rattle.interpolation.specs.Bases.{weights-by}
-use Rattle.records.specs.Laws.{Bounds, quorum-max}
-use Rattle.text.specs.Texts.{Wrote, wrote-none, wrote-length, wrote-append}
+use Rattle.interpolation.specs.PointLaws.{slot-is}
+use Rattle.interpolation.specs.BasisLaws.{weights-by}
+use Rattle.records.specs.RecordLaws.{Bounds, quorum-max}
+use Rattle.text.specs.Texts.{Wrote}
+use Rattle.text.specs.TextLaws.{wrote-none, wrote-length, wrote-append}
 use Rattle.protocol.specs.Transcript.{nonce}
-use Rattle.combination.specs.Powers.{combined-powers}
+use Rattle.combination.specs.PowerLaws.{combined-powers}
 use Rattle.run.specs.Runs.{transcriptOf}
 use Rattle.run.specs.RunLaws.{formed-of}
-use Rattle.closing.specs.SignatureRows.{rowLines, line-is, row-next, row-max, nonce-is, kept-at, kept-below}
+use Rattle.closing.specs.SignatureLaws.{rowLines, line-is, row-next, row-max, nonce-is, kept-at, kept-below}
 use Rattle.closing.proofs.put_row.Statement.{statement}
 use Rattle.closing.proofs.put_row.Tie as tie
 

@@ -6,13 +6,14 @@ use native.Mathlib.Omega.{arith}
 use borrow.Author.Needs.{needs}
 use lib.ListN.{length}
 use Rattle.records.specs.Parameters.{batch}
-use Rattle.records.specs.Laws.{Bounds, batch-max, cells-max}
-use Rattle.text.specs.Texts.{Wrote, wrote-none, wrote-length, wrote-append}
+use Rattle.records.specs.RecordLaws.{Bounds, batch-max, cells-max}
+use Rattle.text.specs.Texts.{Wrote}
+use Rattle.text.specs.TextLaws.{wrote-none, wrote-length, wrote-append}
 use Rattle.combination.specs.Combination.{powersAt}
-use Rattle.combination.specs.Powers.{powers-none, powers-next}
+use Rattle.combination.specs.PowerLaws.{powers-none, powers-next}
 use Rattle.run.specs.RunLaws.{formed-of}
 use Rattle.closing.specs.Closing.{signatureLines}
-use Rattle.closing.specs.SignatureRows.{rows-next, signatures-max}
+use Rattle.closing.specs.SignatureLaws.{rows-next, signatures-max}
 use Rattle.closing.proofs.put_signatures.Statement.{statement}
 use Rattle.closing.proofs.put_signatures.Tie as tie
 

@@ -6,13 +6,13 @@ use mathlib.Core.Logic.{⊎-elim}
 use mathlib.Core.Path.{_≡_, sym, ap, ap₂, _∙_}
 use Prim.Native.Nat.{ℕ, _+_, _-_, _*_, _≤_, min}
 use lib.ListN.{length, getD, List·getD-eq-default}
-use Rattle.lists.specs.Stores.{stored-none, getD-default}
+use Rattle.lists.specs.StoreLaws.{stored-none, getD-default}
 use Rattle.sets.specs.Masks.{has}
 use Rattle.field.specs.declared.Element.{Element}
 use Rattle.field.specs.Definitions.{identity, product}
 use Rattle.arrays.specs.Arrays.{base, commitmentIn, elements}
 use Rattle.combination.specs.Combination.{combinedValue}
-use Rattle.arrays.specs.Loops.{front, front-next, front-capped}
+use Rattle.arrays.specs.LoopLaws.{front, front-next, front-capped}
 use Rattle.combination.proofs.Loops.{combined-none, combined-skip, combined-take}
 use Rattle.combination.proofs.combined_values.Statement.{statement}
 use Rattle.combination.proofs.combined_values.Tie as tie

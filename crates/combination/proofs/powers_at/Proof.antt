@@ -4,7 +4,7 @@ use native.Mathlib.Omega.{arith}
 use mathlib.Core.Path.{_≡_, ap, _∙_}
 use Prim.Native.Nat.{_-_, _≤_}
 use Rattle.combination.specs.Combination.{powersAt}
-use Rattle.combination.specs.Powers.{powers-none, powers-next}
+use Rattle.combination.specs.PowerLaws.{powers-none, powers-next}
 use Rattle.combination.proofs.powers_at.Statement.{statement}
 use Rattle.combination.proofs.powers_at.Tie as tie
 

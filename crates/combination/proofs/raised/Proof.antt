@@ -6,7 +6,8 @@ use mathlib.Core.Path.{_≡_, refl, sym, ap, ap₂, _∙_}
 use mathlib.Core.List.{List}
 use Prim.Native.Nat.{ℕ, _+_, _*_, _-_, _/_, _≤_, min}
 use lib.ListN.{length, getD, set}
-use Rattle.lists.specs.Stores.{stored, getD-default, stored-first, stored-capped}
+use Rattle.lists.specs.Stores.{stored}
+use Rattle.lists.specs.StoreLaws.{getD-default, stored-first, stored-capped}
 use Rattle.field.specs.declared.Element.{Element}
 use Rattle.field.specs.Definitions.{identity, powered}
 use Rattle.combination.specs.Combination.{raised}

@@ -6,7 +6,8 @@ use mathlib.Core.Logic.{⊎-elim}
 use mathlib.Core.Path.{_≡_, refl, sym, _∙_}
 use mathlib.Core.Bool.{Bool, true, false, not, _||_, and-false}
 use Prim.Native.Nat.{ℕ, _+_, _-_, _≤_}
-use Rattle.lists.specs.Tests.{allTo, all-next, fails-stays}
+use Rattle.lists.specs.Tests.{allTo}
+use Rattle.lists.specs.TestLaws.{all-next, fails-stays}
 use Rattle.sets.specs.Masks.{has}
 use Rattle.dealing.specs.declared.Dealings.{Dealings}
 use Rattle.dealing.specs.Definitions.{mayBlame}

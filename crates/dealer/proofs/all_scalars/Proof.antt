@@ -3,7 +3,7 @@ use Prim.Native.Nat.{_-_}
 use native.Mathlib.Omega.{arith}
 use borrow.Author.Needs.{needs}
 use lib.ListN.{getD}
-use Rattle.lists.specs.Calls.{Asked, asked-none, asked-more, asked-fails, asked-all}
+use Rattle.lists.specs.CallLaws.{Asked, asked-none, asked-more, asked-fails, asked-all}
 use Rattle.field.specs.Definitions.{isScalar}
 use Rattle.dealer.proofs.all_scalars.Statement.{statement}
 use Rattle.dealer.proofs.all_scalars.Tie as tie

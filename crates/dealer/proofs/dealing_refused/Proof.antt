@@ -1,8 +1,8 @@
 -- `dealing_refused` meets its contract: the code asks what the definition asks, in its order. Assumes nothing.
 use mathlib.Core.Path.{refl, sym, _∙_}
 use borrow.Author.Needs.{needs}
-use Rattle.lists.specs.Tests.{Left, left, test-number}
-use Rattle.lists.specs.Calls.{holds, fails, equals, differs}
+use Rattle.lists.specs.TestLaws.{Left, left, test-number}
+use Rattle.lists.specs.CallLaws.{holds, fails, equals, differs}
 use Rattle.dealer.specs.Dealt.{dealingRefused}
 use Rattle.dealer.proofs.Calls.{counted}
 use Rattle.dealer.proofs.dealing_refused.Statement.{statement}

@@ -4,7 +4,7 @@ use Prim.Native.Nat.{_-_, _≤_}
 use native.Mathlib.Omega.{arith}
 use borrow.Author.Needs.{needs}
 use lib.ListN.{length, getD}
-use Rattle.lists.specs.Stores.{stored-first, stored-none}
+use Rattle.lists.specs.StoreLaws.{stored-first, stored-none}
 use Rattle.field.specs.Definitions.{scalar}
 use Rattle.arrays.specs.Arrays.{scalars}
 use Rattle.dealer.proofs.load_scalars.Statement.{statement}

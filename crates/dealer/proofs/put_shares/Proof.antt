@@ -9,11 +9,11 @@ use Rattle.field.specs.declared.Scalar.{Scalar}
 use Rattle.field.specs.Definitions.{scalar}
 use Rattle.interpolation.specs.declared.Row.{Row}
 use Rattle.interpolation.specs.Definitions.{point, party, committedPoint}
-use Rattle.interpolation.specs.Laws.{party-is}
+use Rattle.interpolation.specs.PointLaws.{party-is}
 use Rattle.interpolation.specs.Rows.{listed, weightsOf, sumOf}
 use Rattle.records.specs.Parameters.{quorum}
-use Rattle.records.specs.Laws.{bounds-of, quorum-max}
-use Rattle.encoding.specs.Stores.{Put, put-none, put-next}
+use Rattle.records.specs.RecordLaws.{bounds-of, quorum-max}
+use Rattle.encoding.specs.StoreLaws.{Put, put-none, put-next}
 use Rattle.arrays.specs.Arrays.{scalars}
 use Rattle.arrays.specs.ArrayLaws.{scalars-interpolated}
 use Rattle.dealer.specs.Dealt.{shareFor}

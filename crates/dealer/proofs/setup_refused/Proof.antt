@@ -5,8 +5,9 @@ use borrow.Author.Tests.{eq-eqb, ne-eqb}
 use lib.Dec.{eqb}
 use mathlib.Core.Bool.{false}
 use Rattle.field.specs.Definitions.{isScalar}
-use Rattle.lists.specs.Tests.{require, require-true, require-false}
-use Rattle.lists.specs.Calls.{holds, fails, equals, differs}
+use Rattle.lists.specs.Tests.{require}
+use Rattle.lists.specs.TestLaws.{require-true, require-false}
+use Rattle.lists.specs.CallLaws.{holds, fails, equals, differs}
 use Rattle.records.specs.Tags.{setupLength}
 use Rattle.dealer.specs.Dealt.{setupRefused}
 use Rattle.dealer.proofs.Calls.{counted}

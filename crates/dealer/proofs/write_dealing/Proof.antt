@@ -9,12 +9,12 @@ use lib.ListN.{length, getD, length-set, length-append}
 use lib.Seq.{sets}
 use Rattle.records.specs.Parameters.{quorum}
 use Rattle.records.specs.Tags.{letterD, letterE, dealingLength}
-use Rattle.records.specs.Laws.{bounds-test}
+use Rattle.records.specs.RecordLaws.{bounds-test}
 use Rattle.encoding.specs.Bytes.{fours, powerOfFour}
 use Rattle.encoding.specs.ByteLaws.{length-fours}
-use Rattle.encoding.specs.Stores.{sets-parts}
+use Rattle.encoding.specs.StoreLaws.{sets-parts}
 use Rattle.dealer.specs.Dealt.{shareFor, dealingBytes}
-use Rattle.dealer.specs.Fits.{DealingFits, dealing-fits}
+use Rattle.dealer.specs.FitLaws.{DealingFits, dealing-fits}
 use Rattle.dealer.proofs.write_dealing.Statement.{statement}
 use Rattle.dealer.proofs.write_dealing.Tie as tie
 

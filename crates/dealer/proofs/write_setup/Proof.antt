@@ -9,9 +9,9 @@ use lib.ListN.{length, getD, length-set}
 use Rattle.records.specs.Tags.{letterS, letterU, setupLength}
 use Rattle.encoding.specs.Bytes.{four, fours, powerOfFour}
 use Rattle.encoding.specs.ByteLaws.{length-fours}
-use Rattle.encoding.specs.Stores.{sets-parts}
+use Rattle.encoding.specs.StoreLaws.{sets-parts}
 use Rattle.dealer.specs.Dealt.{setupBytes}
-use Rattle.dealer.specs.Fits.{SetupFits, setup-fits}
+use Rattle.dealer.specs.FitLaws.{SetupFits, setup-fits}
 use Rattle.dealer.proofs.write_setup.Statement.{statement}
 use Rattle.dealer.proofs.write_setup.Tie as tie
 

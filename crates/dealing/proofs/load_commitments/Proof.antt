@@ -7,7 +7,7 @@ use Prim.Native.Nat.{_-_}
 use Rattle.field.specs.Definitions.{element}
 use Rattle.records.specs.Parameters.{places}
 use Rattle.records.specs.Bytes.{word}
-use Rattle.lists.specs.Loads.{Loading, loading-none, loading-in, loading-past, loading-end}
+use Rattle.lists.specs.LoadLaws.{Loading, loading-none, loading-in, loading-past, loading-end}
 use Rattle.dealing.proofs.load_commitments.Statement.{statement}
 use Rattle.dealing.proofs.load_commitments.Tie as tie
 

@@ -6,8 +6,8 @@ use mathlib.Core.Path.{_≡_, refl, ap, sym, _∙_}
 use Prim.Native.Nat.{ℕ, _+_, _-_, _≤_}
 use Rattle.sets.specs.Masks.{maskOf, insert}
 use Rattle.interpolation.specs.Rows.{weightsBy}
-use Rattle.interpolation.specs.Laws.{party-is}
-use Rattle.records.specs.Laws.{bounds-of, quorum-max}
+use Rattle.interpolation.specs.PointLaws.{party-is}
+use Rattle.records.specs.RecordLaws.{bounds-of, quorum-max}
 use Rattle.dealing.proofs.Shares.{unfit, share-next, wrong-shares}
 use Rattle.dealing.proofs.wrong_shares.Statement.{statement}
 use Rattle.dealing.proofs.wrong_shares.Tie as tie

@@ -6,7 +6,7 @@ use borrow.Author.Needs.{needs}
 use lib.ListN.{length, getD}
 use Rattle.field.specs.declared.Element.{Element}
 use Rattle.encoding.specs.Bytes.{powerOfFour}
-use Rattle.encoding.specs.Stores.{Put, put-none, put-next}
+use Rattle.encoding.specs.StoreLaws.{Put, put-none, put-next}
 use Rattle.encoding.proofs.put_powers.Statement.{statement}
 use Rattle.encoding.proofs.put_powers.Tie as tie
 

@@ -5,7 +5,7 @@ use native.Mathlib.Nat.{pow-zero, mod-lt, one-mul}
 use mathlib.Core.Logic.{⊎-elim}
 use mathlib.Core.Path.{_≡_, _∙_, ap, sym}
 use Prim.Native.Nat.{ℕ, _*_, _%_, _^_, _<_}
-use Rattle.field.specs.Powers.{pow-one, power-is, even-turn, odd-turn}
+use Rattle.field.specs.PowerLaws.{pow-one, power-is, even-turn, odd-turn}
 use Rattle.field.proofs.Fits.{product-fits}
 use Rattle.field.proofs.power_of.Statement.{statement}
 use Rattle.field.proofs.power_of.Tie as tie

@@ -7,7 +7,7 @@ use lib.Dec.{eqb}
 use Rattle.lists.specs.Tests.{pick}
 use Rattle.records.specs.Tags.{Tag, SU, DE, VE, CH, RE, unknown, code, tagOf}
 use Rattle.log.specs.Cutting.{lengthAt, lengthOf}
-use Rattle.log.specs.Turns.{none-yet}
+use Rattle.log.specs.TurnLaws.{none-yet}
 use Rattle.log.proofs.record_length.Statement.{statement}
 use Rattle.log.proofs.record_length.Tie as tie
 

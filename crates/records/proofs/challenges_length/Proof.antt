@@ -2,7 +2,7 @@
 use borrow.Author.Needs.{needs}
 use native.Mathlib.Omega.{arith}
 use Rattle.records.specs.Tags.{challengesLength}
-use Rattle.records.specs.Laws.{byte-product}
+use Rattle.records.specs.RecordLaws.{byte-product}
 use Rattle.records.proofs.challenges_length.Statement.{statement}
 use Rattle.records.proofs.challenges_length.Tie as tie
 

@@ -3,10 +3,10 @@ use mathlib.Core.Path.{refl, sym}
 use mathlib.Core.Bool.{and-false}
 use borrow.Author.Needs.{needs}
 use native.Mathlib.Omega.{arith}
-use Rattle.lists.specs.Tests.{Left, left, test-number}
+use Rattle.lists.specs.TestLaws.{Left, left, test-number}
 use Rattle.refusals.specs.Refusals.{challengesRefusal}
-use Rattle.lists.specs.Calls.{holds, fails, equals, differs, is, is-not}
-use Rattle.records.specs.Laws.{byte-product}
+use Rattle.lists.specs.CallLaws.{holds, fails, equals, differs, is, is-not}
+use Rattle.records.specs.RecordLaws.{byte-product}
 use Rattle.refusals.proofs.challenges_refusal.Statement.{statement}
 use Rattle.refusals.proofs.challenges_refusal.Tie as tie
 

@@ -2,9 +2,9 @@
 use mathlib.Core.Path.{refl, sym}
 use borrow.Author.Needs.{needs}
 use borrow.Author.Tests.{eq-eqb, ne-eqb}
-use Rattle.lists.specs.Tests.{Left, left, test-number}
+use Rattle.lists.specs.TestLaws.{Left, left, test-number}
 use Rattle.refusals.specs.Refusals.{headRefusal}
-use Rattle.lists.specs.Calls.{holds, fails, is, is-not}
+use Rattle.lists.specs.CallLaws.{holds, fails, is, is-not}
 use Rattle.refusals.proofs.head_refusal.Statement.{statement}
 use Rattle.refusals.proofs.head_refusal.Tie as tie
 

@@ -1,9 +1,9 @@
 -- `response_refusal` meets its contract: the code asks what the definition asks, in its order. Assumes nothing.
 use mathlib.Core.Path.{refl, sym}
 use borrow.Author.Needs.{needs}
-use Rattle.lists.specs.Tests.{left, test-number}
+use Rattle.lists.specs.TestLaws.{left, test-number}
 use Rattle.refusals.specs.Refusals.{responseRefusal}
-use Rattle.lists.specs.Calls.{holds, fails, itself, Beyond, beyond}
+use Rattle.lists.specs.CallLaws.{holds, fails, itself, Beyond, beyond}
 use Rattle.refusals.proofs.response_refusal.Statement.{statement}
 use Rattle.refusals.proofs.response_refusal.Tie as tie
 

@@ -3,9 +3,9 @@ use mathlib.Core.Path.{refl, sym}
 use mathlib.Core.Bool.{and-false}
 use borrow.Author.Needs.{needs}
 use borrow.Author.Tests.{le-leb, lt-leb}
-use Rattle.lists.specs.Tests.{Left, left, test-number}
+use Rattle.lists.specs.TestLaws.{Left, left, test-number}
 use Rattle.refusals.specs.Refusals.{setupRefusal}
-use Rattle.lists.specs.Calls.{holds, fails, equals, differs, is, is-not}
+use Rattle.lists.specs.CallLaws.{holds, fails, equals, differs, is, is-not}
 use Rattle.refusals.proofs.setup_refusal.Statement.{statement}
 use Rattle.refusals.proofs.setup_refusal.Tie as tie
 

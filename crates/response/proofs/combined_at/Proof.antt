@@ -6,10 +6,10 @@ use Rattle.sets.specs.Masks.{has}
 use Rattle.interpolation.specs.declared.Row.{Row}
 use Rattle.interpolation.specs.Definitions.{committedPoint}
 use Rattle.interpolation.specs.Rows.{listed, weightsOf, productOf}
-use Rattle.records.specs.Laws.{bounds-of, quorum-max}
+use Rattle.records.specs.RecordLaws.{bounds-of, quorum-max}
 use Rattle.arrays.specs.Arrays.{commitmentIn, elements}
 use Rattle.combination.specs.Combination.{combinedValue}
-use Rattle.combination.specs.Powers.{combined-powers}
+use Rattle.combination.specs.PowerLaws.{combined-powers}
 use borrow.Author.Needs.{needs}
 use Rattle.response.specs.ResponseLaws.{combined-is}
 use Rattle.response.proofs.combined_at.Statement.{statement}

@@ -7,18 +7,19 @@ use mathlib.Core.Path.{_≡_, refl, sym, ap, ap₂, _∙_}
 use mathlib.Core.Bool.{Bool, true, false, and-false}
 use Prim.Native.Nat.{ℕ, _+_, _-_, _≤_}
 use lib.ListN.{length}
-use Rattle.lists.specs.Tests.{allTo, all-next, fails-stays}
+use Rattle.lists.specs.Tests.{allTo}
+use Rattle.lists.specs.TestLaws.{all-next, fails-stays}
 use Rattle.field.specs.Definitions.{scalar, generator, product, raise, sameElement}
-use Rattle.interpolation.specs.Laws.{party-is}
+use Rattle.interpolation.specs.PointLaws.{party-is}
 use Rattle.interpolation.specs.Rows.{sumOf, productOf}
-use Rattle.interpolation.specs.Turns.{first, product-none, product-next}
+use Rattle.interpolation.specs.TurnLaws.{first, product-none, product-next}
 use Rattle.records.specs.Parameters.{batch}
 use Rattle.records.specs.Bytes.{word, sender}
-use Rattle.records.specs.Laws.{bounds-of, quorum-max, batch-max}
+use Rattle.records.specs.RecordLaws.{bounds-of, quorum-max, batch-max}
 use Rattle.protocol.specs.Transcript.{passes}
 use Rattle.combination.specs.Combination.{powersAt}
 use Rattle.arrays.specs.ArrayLaws.{elements-length}
-use Rattle.combination.specs.Powers.{powers-none, powers-next, combined-powers}
+use Rattle.combination.specs.PowerLaws.{powers-none, powers-next, combined-powers}
 use Rattle.response.specs.Definitions.{transcript}
 use Rattle.response.proofs.ResponseRows.{wanted, fits, all-weights, row-tested}
 use Rattle.response.proofs.row_passes.Statement.{statement}

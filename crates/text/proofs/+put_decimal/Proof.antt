@@ -12,7 +12,8 @@ use lib.Dec.{ltb}
 use lib.ListN.{length, length-append, length-set}
 use Rattle.lists.specs.Tests.{pick}
 use Rattle.text.specs.Lines.{decimal}
-use Rattle.text.specs.Texts.{Wrote, wrote-none, wrote-length, wrote-byte, wrote-append}
+use Rattle.text.specs.Texts.{Wrote}
+use Rattle.text.specs.TextLaws.{wrote-none, wrote-length, wrote-byte, wrote-append}
 use Rattle.text.specs.LineLaws.{decimal-last, decimal-max}
 use Rattle.text.proofs.put_decimal.Reads as put-decimal
 use Rattle.text.proofs.put_decimal.Kinds as put-decimal-kinds

@@ -4,7 +4,7 @@ use native.Mathlib.Omega.{arith}
 use borrow.Author.Needs.{needs}
 use lib.ListN.{length-set}
 use Rattle.text.specs.Lines.{field}
-use Rattle.text.specs.Texts.{wrote-byte, wrote-append}
+use Rattle.text.specs.TextLaws.{wrote-byte, wrote-append}
 use Rattle.text.proofs.put_field.Statement.{statement}
 use Rattle.text.proofs.put_field.Tie as tie
 

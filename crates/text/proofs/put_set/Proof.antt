@@ -9,7 +9,8 @@ use lib.ListN.{length, length-set}
 use Rattle.sets.specs.Masks.{has, membersFrom, members}
 use Rattle.sets.specs.MemberLaws.{members-next, count-le}
 use Rattle.text.specs.Lines.{fields, setText, setLine}
-use Rattle.text.specs.Texts.{Wrote, wrote-none, wrote-length, wrote-byte, wrote-append}
+use Rattle.text.specs.Texts.{Wrote}
+use Rattle.text.specs.TextLaws.{wrote-none, wrote-length, wrote-byte, wrote-append}
 use Rattle.text.specs.LineLaws.{fields-snoc, fields-max, setText-none, setText-some, setText-max}
 use Rattle.text.proofs.put_set.Statement.{statement}
 use Rattle.text.proofs.put_set.Tie as tie

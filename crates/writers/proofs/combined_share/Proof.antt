@@ -7,8 +7,9 @@ use Prim.Native.Nat.{ℕ, _+_, _-_, _≤_}
 use native.Mathlib.Omega.{arith}
 use borrow.Author.Needs.{needs}
 use lib.ListN.{getD}
-use Rattle.algebra.specs.Fold.{fold-zero, fold-next, fold-keeps}
-use Rattle.lists.specs.Tests.{pick, pick-case}
+use Rattle.algebra.specs.FoldLaws.{fold-zero, fold-next, fold-keeps}
+use Rattle.lists.specs.Tests.{pick}
+use Rattle.lists.specs.TestLaws.{pick-case}
 use Rattle.sets.specs.Masks.{has}
 use Rattle.field.specs.declared.Scalar.{Scalar}
 use Rattle.field.specs.Definitions.{scalar, IsScalar, plus, times}

@@ -5,7 +5,7 @@ use mathlib.Core.Bool.{false}
 use lib.Dec.{eqb}
 use Rattle.run.specs.Runs.{stageOf}
 use Rattle.lists.specs.Tests.{require}
-use Rattle.lists.specs.Calls.{holds, fails, equals, differs, is, is-not}
+use Rattle.lists.specs.CallLaws.{holds, fails, equals, differs, is, is-not}
 use Rattle.writers.specs.Writers.{complaintRefused}
 use Rattle.writers.proofs.complaint_refused.Statement.{statement}
 use Rattle.writers.proofs.complaint_refused.Tie as tie

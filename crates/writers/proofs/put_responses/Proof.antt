@@ -12,11 +12,11 @@ use Rattle.field.specs.declared.Scalar.{Scalar}
 use Rattle.field.specs.Definitions.{scalar, plus, times}
 use Rattle.interpolation.specs.declared.Row.{Row}
 use Rattle.interpolation.specs.Definitions.{point, party, slot}
-use Rattle.interpolation.specs.Laws.{party-is}
+use Rattle.interpolation.specs.PointLaws.{party-is}
 use Rattle.interpolation.specs.Rows.{listed, weightsOf, sumOf}
 use Rattle.records.specs.Parameters.{batch}
 use Rattle.encoding.specs.Bytes.{fours}
-use Rattle.encoding.specs.Stores.{Put, put-none, put-next}
+use Rattle.encoding.specs.StoreLaws.{Put, put-none, put-next}
 use Rattle.protocol.specs.Transcript.{challengeAt}
 use Rattle.arrays.specs.Arrays.{challengeIn, scalars}
 use Rattle.arrays.specs.ArrayLaws.{scalars-interpolated}

@@ -5,7 +5,7 @@ use mathlib.Core.Bool.{false}
 use lib.Dec.{eqb}
 use Rattle.run.specs.Runs.{stageOf}
 use Rattle.lists.specs.Tests.{require}
-use Rattle.lists.specs.Calls.{holds, fails, is, is-not}
+use Rattle.lists.specs.CallLaws.{holds, fails, is, is-not}
 use Rattle.sets.specs.Masks.{has}
 use Rattle.writers.specs.Writers.{responseRefused}
 use Rattle.writers.proofs.response_refused.Statement.{statement}

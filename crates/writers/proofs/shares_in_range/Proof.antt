@@ -4,7 +4,7 @@ use Prim.Native.Nat.{_+_, _-_}
 use native.Mathlib.Omega.{arith}
 use borrow.Author.Needs.{needs}
 use lib.ListN.{getD}
-use Rattle.lists.specs.Calls.{Asked, asked-none, asked-more, asked-fails, asked-all}
+use Rattle.lists.specs.CallLaws.{Asked, asked-none, asked-more, asked-fails, asked-all}
 use Rattle.sets.specs.Masks.{has}
 use Rattle.field.specs.Definitions.{isScalar}
 use Rattle.writers.proofs.shares_in_range.Statement.{statement}

@@ -7,8 +7,9 @@ use borrow.Author.Needs.{needs}
 use borrow.Author.Tests.{eq-eqb, ne-eqb}
 use lib.ListN.{getD}
 use lib.Dec.{eqb}
-use Rattle.lists.specs.Tests.{allTo, require, require-true, require-false}
-use Rattle.lists.specs.Calls.{holds, fails, equals, differs}
+use Rattle.lists.specs.Tests.{allTo, require}
+use Rattle.lists.specs.TestLaws.{require-true, require-false}
+use Rattle.lists.specs.CallLaws.{holds, fails, equals, differs}
 use Rattle.sets.specs.Masks.{has}
 use Rattle.field.specs.Definitions.{isScalar}
 use Rattle.records.specs.Tags.{responseLength}

@@ -9,7 +9,7 @@ use lib.ListN.{length, length-set}
 use Rattle.sets.specs.Masks.{maskOf}
 use Rattle.records.specs.Tags.{letterE, letterV, complaintLength}
 use Rattle.encoding.specs.Bytes.{four}
-use Rattle.encoding.specs.Stores.{sets-whole}
+use Rattle.encoding.specs.StoreLaws.{sets-whole}
 use Rattle.dealing.specs.Definitions.{mayBlame}
 use Rattle.run.specs.RunLaws.{formed-of}
 use Rattle.writers.specs.Writers.{complaintBytes}

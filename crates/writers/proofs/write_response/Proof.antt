@@ -10,7 +10,7 @@ use Rattle.records.specs.Parameters.{batch}
 use Rattle.records.specs.Tags.{letterE, letterR, responseLength}
 use Rattle.encoding.specs.Bytes.{fours}
 use Rattle.encoding.specs.ByteLaws.{length-fours}
-use Rattle.encoding.specs.Stores.{sets-whole}
+use Rattle.encoding.specs.StoreLaws.{sets-whole}
 use Rattle.writers.specs.Writers.{responseFor, responseBytes}
 use Rattle.writers.specs.WriterLaws.{ResponseFits, response-fits}
 use Rattle.writers.proofs.write_response.Statement.{statement}

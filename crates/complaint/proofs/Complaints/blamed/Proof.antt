@@ -4,7 +4,8 @@ use native.Mathlib.Omega.{arith}
 use mathlib.Core.Path.{_≡_, sym, ap, ap₂, _∙_}
 use Prim.Native.Nat.{ℕ, _+_, _-_, _≤_}
 use lib.Bits.{bitOr}
-use Rattle.algebra.specs.Fold.{fold, fold-zero, fold-next}
+use Rattle.algebra.specs.Fold.{fold}
+use Rattle.algebra.specs.FoldLaws.{fold-zero, fold-next}
 use Rattle.complaint.specs.Definitions.{maskBy, blamedBy}
 use Rattle.complaint.proofs.Complaints.blamed.Statement.{statement}
 use Rattle.complaint.proofs.Complaints.blamed.Tie as tie

@@ -4,9 +4,10 @@ use borrow.Author.Needs.{needs}
 use mathlib.Core.Path.{_≡_, sym, ap, _∙_}
 use mathlib.Core.Bool.{not}
 use Rattle.sets.specs.Masks.{has}
-use Rattle.lists.specs.Tests.{require, require-true, require-false}
+use Rattle.lists.specs.Tests.{require}
+use Rattle.lists.specs.TestLaws.{require-true, require-false}
 use Rattle.complaint.specs.Definitions.{complaintNumber}
-use Rattle.lists.specs.Calls.{itself, sent}
+use Rattle.lists.specs.CallLaws.{itself, sent}
 use Rattle.complaint.proofs.Complaints.number.Statement.{statement}
 use Rattle.complaint.proofs.Complaints.number.Tie as tie
 

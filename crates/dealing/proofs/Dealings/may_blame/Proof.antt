@@ -5,7 +5,7 @@ use native.Mathlib.Omega.{arith}
 use mathlib.Core.Path.{_≡_, sym}
 use mathlib.Core.Bool.{false}
 use lib.ListN.{length}
-use Rattle.lists.specs.Calls.{fails}
+use Rattle.lists.specs.CallLaws.{fails}
 use Rattle.sets.specs.Masks.{has}
 use Rattle.dealing.specs.Definitions.{mayBlame}
 use Rattle.dealing.proofs.Blames.{blame-none, blame-past}

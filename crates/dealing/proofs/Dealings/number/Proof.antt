@@ -5,7 +5,7 @@ use mathlib.Core.Bool.{not}
 use Rattle.lists.specs.Tests.{require}
 use Rattle.sets.specs.Masks.{has}
 use Rattle.dealing.specs.Definitions.{dealingNumber}
-use Rattle.lists.specs.Calls.{itself, sent}
+use Rattle.lists.specs.CallLaws.{itself, sent}
 use Rattle.dealing.proofs.Dealings.number.Statement.{statement}
 use Rattle.dealing.proofs.Dealings.number.Tie as tie
 

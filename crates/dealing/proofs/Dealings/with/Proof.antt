@@ -10,7 +10,7 @@ use Rattle.sets.specs.Masks.{insert}
 use Rattle.field.specs.Definitions.{element}
 use Rattle.records.specs.Parameters.{quorum}
 use Rattle.records.specs.Bytes.{word, sender}
-use Rattle.records.specs.Laws.{bounds-of}
+use Rattle.records.specs.RecordLaws.{bounds-of}
 use Rattle.arrays.specs.Arrays.{base}
 use Rattle.dealing.specs.Definitions.{withDealing, wrongShares}
 use Rattle.dealing.proofs.Dealings.with.Statement.{statement}

@@ -6,7 +6,7 @@ use mathlib.Core.Path.{_≡_, _∙_, ap, sym}
 use Prim.Native.Nat.{ℕ, _*_, _%_, _-_, _/_, _<_}
 use Rattle.field.specs.declared.Scalar.{Scalar}
 use Rattle.field.specs.Definitions.{q, scalar, times, inverseOf, inverse}
-use Rattle.field.specs.Congruence.{mod-mul-mod, mul-mod-mod, same}
+use Rattle.field.specs.CongruenceLaws.{mod-mul-mod, mul-mod-mod, same}
 use Rattle.field.specs.ScalarLaws.{inverse-small, inverse-step, inverse-lt}
 use Rattle.field.proofs.Scalar.inverse.Statement.{statement}
 use Rattle.field.proofs.Scalar.inverse.Tie as tie

@@ -6,8 +6,9 @@ use Prim.Native.Nat.{ℕ, _-_, _≤_}
 use Rattle.field.specs.declared.Scalar.{Scalar}
 use Rattle.field.specs.Definitions.{times}
 use Rattle.interpolation.specs.declared.Row.{Row}
-use Rattle.interpolation.specs.Rows.{size, nth, differences, weightsBy, listed-cong}
-use Rattle.interpolation.specs.Bases.{differences-split}
+use Rattle.interpolation.specs.Rows.{size, nth, differences, weightsBy}
+use Rattle.interpolation.specs.RowLaws.{listed-cong}
+use Rattle.interpolation.specs.BasisLaws.{differences-split}
 use Rattle.interpolation.proofs.Loops.{front, front-none, front-next, front-row}
 use Rattle.interpolation.proofs.Basis.weights.Statement.{statement}
 use Rattle.interpolation.proofs.Basis.weights.Tie as tie

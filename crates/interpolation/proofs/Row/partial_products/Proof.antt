@@ -3,10 +3,10 @@ use borrow.Author.Needs.{needs}
 use native.Mathlib.Omega.{arith}
 use mathlib.Core.Path.{_≡_, _∙_, ap₂, sym}
 use Prim.Native.Nat.{_-_, _≤_}
-use Rattle.algebra.specs.Fold.{fold-zero, fold-next}
+use Rattle.algebra.specs.FoldLaws.{fold-zero, fold-next}
 use Rattle.field.specs.Definitions.{scalar, minus, times}
 use Rattle.interpolation.specs.Rows.{size, nth}
-use Rattle.interpolation.specs.Bases.{partialProduct, partialProducts}
+use Rattle.interpolation.specs.BasisLaws.{partialProduct, partialProducts}
 use Rattle.interpolation.proofs.Loops.{front, front-none, front-next, front-row}
 use Rattle.interpolation.proofs.Row.partial_products.Statement.{statement}
 use Rattle.interpolation.proofs.Row.partial_products.Tie as tie

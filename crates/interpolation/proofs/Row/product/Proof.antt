@@ -4,8 +4,9 @@ use native.Mathlib.Omega.{arith}
 use mathlib.Core.Path.{_≡_, _∙_, ap, ap₂, sym}
 use Prim.Native.Nat.{ℕ, _-_, _≤_}
 use lib.ListN.{length, getD}
-use Rattle.algebra.specs.Fold.{fold, fold-zero, fold-next}
-use Rattle.lists.specs.Stores.{getD-default}
+use Rattle.algebra.specs.Fold.{fold}
+use Rattle.algebra.specs.FoldLaws.{fold-zero, fold-next}
+use Rattle.lists.specs.StoreLaws.{getD-default}
 use Rattle.field.specs.declared.Element.{Element}
 use Rattle.field.specs.Definitions.{identity, raise, product as multiply}
 use Rattle.interpolation.specs.Rows.{size, nth, productOf}

@@ -4,7 +4,7 @@ use native.Mathlib.Omega.{arith}
 use mathlib.Core.Path.{_≡_, sym}
 use Prim.Native.Nat.{_-_, _≤_}
 use Rattle.interpolation.specs.Rows.{size, nth}
-use Rattle.interpolation.specs.Bases.{reversed}
+use Rattle.interpolation.specs.BasisLaws.{reversed}
 use Rattle.interpolation.proofs.Loops.{front, front-none, front-next, front-row}
 use Rattle.interpolation.proofs.Row.reversed.Statement.{statement}
 use Rattle.interpolation.proofs.Row.reversed.Tie as tie

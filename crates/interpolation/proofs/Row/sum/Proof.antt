@@ -4,7 +4,8 @@ use native.Mathlib.Omega.{arith}
 use mathlib.Core.Path.{_≡_, _∙_, ap, ap₂, sym}
 use Prim.Native.Nat.{ℕ, _-_, _≤_}
 use lib.ListN.{getD}
-use Rattle.algebra.specs.Fold.{fold, fold-zero, fold-next}
+use Rattle.algebra.specs.Fold.{fold}
+use Rattle.algebra.specs.FoldLaws.{fold-zero, fold-next}
 use Rattle.field.specs.Definitions.{scalar, plus, times}
 use Rattle.interpolation.specs.Rows.{size, nth, sumOf}
 use Rattle.interpolation.proofs.Row.sum.Statement.{statement}

@@ -3,7 +3,7 @@ use borrow.Author.Needs.{needs}
 use mathlib.Core.Path.{_∙_, ap}
 use Rattle.interpolation.specs.declared.Basis.{Basis}
 use Rattle.interpolation.specs.Rows.{weightsBy}
-use Rattle.interpolation.specs.Bases.{weights-by}
+use Rattle.interpolation.specs.BasisLaws.{weights-by}
 use Rattle.interpolation.proofs.Row.weights.Statement.{statement}
 use Rattle.interpolation.proofs.Row.weights.Tie as tie
 

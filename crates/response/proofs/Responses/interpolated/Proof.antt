@@ -3,8 +3,8 @@ use borrow.Author.Needs.{needs}
 use native.Mathlib.Omega.{arith}
 use mathlib.Core.Path.{_∙_, _≡_, sym}
 use Rattle.interpolation.specs.Definitions.{slot}
-use Rattle.interpolation.specs.Bases.{weights-by}
-use Rattle.interpolation.specs.Laws.{slot-is}
+use Rattle.interpolation.specs.BasisLaws.{weights-by}
+use Rattle.interpolation.specs.PointLaws.{slot-is}
 use Rattle.response.proofs.ResponseRows.{phi-members}
 use Rattle.response.proofs.Responses.interpolated.Statement.{statement}
 use Rattle.response.proofs.Responses.interpolated.Tie as tie

@@ -4,12 +4,13 @@ use borrow.Author.Needs.{needs}
 use mathlib.Core.Path.{_≡_, sym, ap, _∙_}
 use mathlib.Core.Bool.{Bool, not}
 use Prim.Native.Nat.{ℕ}
-use Rattle.lists.specs.Tests.{require, require-true, require-false, orNext}
+use Rattle.lists.specs.Tests.{require, orNext}
+use Rattle.lists.specs.TestLaws.{require-true, require-false}
 use Rattle.sets.specs.Masks.{has}
 use Rattle.records.specs.Bytes.{sender}
 use Rattle.refusals.specs.Refusals.{responseRefusal}
 use Rattle.response.specs.Definitions.{responseNumber}
-use Rattle.lists.specs.Calls.{itself, sent}
+use Rattle.lists.specs.CallLaws.{itself, sent}
 use Rattle.response.proofs.Responses.number.Statement.{statement}
 use Rattle.response.proofs.Responses.number.Tie as tie
 

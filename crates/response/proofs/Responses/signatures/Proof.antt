@@ -8,12 +8,12 @@ use Rattle.lists.specs.Stores.{stored}
 use Rattle.field.specs.declared.Scalar.{Scalar}
 use Rattle.interpolation.specs.Rows.{basisOf}
 use Rattle.records.specs.Parameters.{batch}
-use Rattle.records.specs.Laws.{bounds-of, key-max, batch-max, cells-max}
+use Rattle.records.specs.RecordLaws.{bounds-of, key-max, batch-max, cells-max}
 use Rattle.arrays.specs.Arrays.{memberPoints}
 use Rattle.dealing.specs.declared.Setup.{Setup}
 use Rattle.response.specs.declared.Responses.{Responses}
 use Rattle.response.specs.Definitions.{phiOf, signaturesOf}
-use Rattle.lists.specs.Loads.{load-in, loaded}
+use Rattle.lists.specs.LoadLaws.{load-in, loaded}
 use Rattle.response.proofs.Responses.signatures.Statement.{statement}
 use Rattle.response.proofs.Responses.signatures.Tie as tie
 

@@ -2,7 +2,7 @@
 use borrow.Author.Needs.{needs}
 use native.Mathlib.Omega.{arith}
 use mathlib.Core.Path.{_≡_, ap, _∙_}
-use Rattle.records.specs.Laws.{cells-max}
+use Rattle.records.specs.RecordLaws.{cells-max}
 use Rattle.run.specs.RunLaws.{formed-of}
 use Rattle.run.specs.Runs.{setChallenges}
 use Rattle.run.specs.Steps.{afterChallenges}

@@ -6,8 +6,9 @@ use mathlib.Core.Logic.{⊎-elim}
 use mathlib.Core.Path.{_≡_, ap, ap₂, sym, _∙_}
 use Prim.Native.Nat.{_+_, _-_}
 use lib.Dec.{eqb}
-use Rattle.lists.specs.Tests.{pick, or-next}
-use Rattle.records.specs.Laws.{bounds-test}
+use Rattle.lists.specs.Tests.{pick}
+use Rattle.lists.specs.TestLaws.{or-next}
+use Rattle.records.specs.RecordLaws.{bounds-test}
 use Rattle.refusals.specs.RefusalLaws.{dealing-passed}
 use Rattle.dealing.specs.declared.Dealings.{Dealings}
 use Rattle.dealing.specs.Definitions.{dealingNumber, withDealing}

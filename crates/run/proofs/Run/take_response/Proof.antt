@@ -8,7 +8,7 @@ use Prim.Native.Nat.{_+_}
 use lib.Dec.{eqb}
 use Rattle.lists.specs.Tests.{pick}
 use Rattle.records.specs.Parameters.{quorum}
-use Rattle.records.specs.Laws.{bounds-test}
+use Rattle.records.specs.RecordLaws.{bounds-test}
 use Rattle.response.specs.declared.Responses.{Responses}
 use Rattle.run.specs.Runs.{setResponses}
 use Rattle.run.specs.Steps.{withRow, finished, afterResponse}

@@ -1,0 +1,40 @@
+-- How long the closing of a page is at most. Assumes nothing.
+use mathlib.Core.List.{List, [], _∷_}
+use Prim.Native.Nat.{ℕ, _*_, _≤_}
+use native.Mathlib.Omega.{arith}
+use lib.ListN.{length, length-append}
+use lib.Dec.{eqb}
+use borrow.Author.Tests.{eqb-true}
+use Rattle.lists.specs.Tests.{pick}
+use Rattle.lists.specs.TestLaws.{pick-case}
+use Rattle.records.specs.Parameters.{mostParties, batch}
+use Rattle.records.specs.RecordLaws.{cells-max}
+use Rattle.text.specs.LineLaws.{line-max, setLine-max}
+use Rattle.run.specs.declared.Run.{Run}
+use Rattle.run.specs.Runs.{stageOf}
+use Rattle.run.specs.RunLaws.{formed-of, stage-live}
+use Rattle.answers.specs.Answers.{setsOf}
+use Rattle.closing.specs.Closing.{holdWord, qualWord, badWord, endWord, mostLines, mostClosing, signatureLines, closing}
+use Rattle.closing.specs.SignatureLaws.{signatures-max}
+
+-- at stage 5 the lines of at most 512 signatures
+pub signed-max : (r : Run) → length (pick (eqb (stageOf r) 5) (signatureLines r (r .setup .a * batch (r .setup .n) (r .setup .t))) []) ≤ mostLines
+signed-max r =
+    let m = r .setup .a * batch (r .setup .n) (r .setup .t) in
+    pick-case (λ (l : List ℕ). length l ≤ mostLines) (eqb (stageOf r) 5) (signatureLines r m) []
+    (λ e. omega (arith, signatures-max r m, cells-max (formed-of r (stage-live r 5 (eqb-true _ _ e) (omega arith) (omega arith) .1) .bounds)))
+    (λ e. omega arith)
+
+pub closing-max : (r : Run) → r .setup .n ≤ mostParties → length (closing r) ≤ mostClosing
+unfolding closing
+closing-max r h =
+    let n = r .setup .n in
+    simp length-append
+    (omega (
+      arith,
+      signed-max r,
+      setLine-max holdWord n (setsOf r .hold),
+      setLine-max qualWord n (setsOf r .qual),
+      setLine-max badWord n (setsOf r .bad),
+      line-max endWord (stageOf r ∷ []),
+    ))

@@ -1,0 +1,55 @@
+-- What a writer that does not refuse knows.
+-- Assumes nothing.
+use mathlib.Core.Path.{_≡_}
+use mathlib.Core.List.{List}
+use Prim.Native.Nat.{ℕ, _≤_, _<_}
+use native.Mathlib.Omega.{arith}
+use lib.ListN.{length}
+use borrow.Author.Tests.{eqb-true}
+use Rattle.lists.specs.TestLaws.{passed}
+use Rattle.records.specs.Parameters.{quorum}
+use Rattle.records.specs.Tags.{setupLength, dealingLength}
+use Rattle.records.specs.RecordLaws.{Bounds, bounds-of, party-of}
+use Rattle.dealer.specs.Dealt.{setupRefused, dealingRefused}
+
+-- ---- SU
+
+pub record SetupFits (n t a : ℕ) (shares : List ℕ) (room : ℕ) : Type 0 where
+  pub bounds : Bounds n t a
+  pub count : length shares ≡ t
+  pub exact : room ≡ setupLength t
+
+pub setup-fits : (n t a s : ℕ) (shares : List ℕ) (room : ℕ) → setupRefused n t a s shares room ≡ 0 → SetupFits n t a shares room
+unfolding setupRefused
+setup-fits n t a s shares room e =
+    let p = passed _ _ _ e (omega arith) in
+    let q = passed _ _ _ (p .1) (omega arith) in
+    let r = passed _ _ _ (q .1) (omega arith) in
+    let v = passed _ _ _ (r .1) (omega arith) in
+    record { bounds = bounds-of n t a (p .0); count = eqb-true _ _ (search); exact = eqb-true _ _ (search) }
+
+-- ---- DE
+
+pub record DealingFits (n t a i : ℕ) (values : List ℕ) (room : ℕ) : Type 0 where
+  pub bounds : Bounds n t a
+  pub party-pos : 0 < i
+  pub party-max : i ≤ n
+  pub count : length values ≡ quorum t a
+  pub exact : room ≡ dealingLength n t a
+
+pub dealing-fits : (n t a i : ℕ) (values : List ℕ) (room : ℕ) → dealingRefused n t a i values room ≡ 0 → DealingFits n t a i values room
+unfolding dealingRefused
+dealing-fits n t a i values room e =
+    let p = passed _ _ _ e (omega arith) in
+    let q = passed _ _ _ (p .1) (omega arith) in
+    let r = passed _ _ _ (q .1) (omega arith) in
+    let v = passed _ _ _ (r .1) (omega arith) in
+    let w = passed _ _ _ (v .1) (omega arith) in
+    let party = party-of n i (q .0) in
+    record {
+      bounds = bounds-of n t a (p .0);
+      party-pos = party .0;
+      party-max = party .1;
+      count = eqb-true _ _ (r .0);
+      exact = eqb-true _ _ (w .0);
+    }

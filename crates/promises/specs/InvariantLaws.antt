@@ -1,0 +1,170 @@
+-- What a run keeps is what its accepted records say: the invariant of a list, part by part, and what follows at once. Assumes nothing.
+use mathlib.Core.Path.{_≡_, sym, ap, subst, _∙_}
+use mathlib.Core.Bool.{true}
+use mathlib.Core.List.{List, []}
+use Prim.Native.Nat.{ℕ, _+_, _*_, _-_, _/_, _%_, _≤_, _<_}
+use native.Mathlib.Omega.{arith}
+use lib.ListN.{length, getD}
+use lib.Dec.{eqb}
+use borrow.Author.Tests.{eqb-true, eqb-false}
+use Rattle.lists.specs.Tests.{pick}
+use Rattle.lists.specs.TestLaws.{pick-case}
+use Rattle.lists.specs.Members.{All}
+use Rattle.lists.specs.StoreLaws.{stored-from, length-filled}
+use Rattle.sets.specs.Masks.{has, count}
+use Rattle.field.specs.declared.Scalar.{Scalar}
+use Rattle.field.specs.Definitions.{scalar, element, IsElement, identity}
+use Rattle.protocol.specs.Transcript.{Transcript, passes}
+use Rattle.records.specs.Parameters.{mostParties, places, cells, quorum, batch}
+use Rattle.records.specs.Bytes.{byteAt, numberAt, word, sender}
+use Rattle.records.specs.Tags.{Tag, SU, DE, VE, CH, RE}
+use Rattle.refusals.specs.Refusals.{setupRefusal, dealingRefusal}
+use Rattle.records.specs.RecordLaws.{Bounds, key-max}
+use Rattle.refusals.specs.RefusalLaws.{setup-passed, dealing-passed}
+use Rattle.dealing.specs.declared.Setup.{Setup}
+use Rattle.dealing.specs.declared.Dealings.{Dealings}
+use Rattle.complaint.specs.declared.Complaints.{Complaints}
+use Rattle.response.specs.declared.Responses.{Responses}
+use Rattle.run.specs.declared.Run.{Run}
+use Rattle.arrays.specs.Arrays.{base}
+use Rattle.dealing.specs.Definitions.{noSetup, setupOf, wrongShares}
+use Rattle.run.specs.Runs.{wellFormed, stageOf, transcriptOf}
+use Rattle.response.specs.Definitions.{phiOf}
+use Rattle.complaint.specs.Definitions.{blamedBy}
+use Rattle.run.specs.RunLaws.{formed-test}
+use Rattle.promises.specs.Lists.{ofTag, first, some, sentBy, recordOf}
+use Rattle.promises.specs.ListLaws.{recordOf-all}
+use Rattle.promises.specs.SenderLaws.{Senders, Slots, Marks, senders-max}
+
+-- ---- the parts
+
+-- s is the accepted SU
+pub record SetupOf (setup : Setup) (s : List ℕ) : Type 0 where
+  pub setup-is : setup ≡ setupOf s
+  pub admitted : setupRefusal s ≡ 0
+
+-- l holds the accepted DE
+pub record DealingsOf (setup : Setup) (d : Dealings) (l : List (List ℕ)) : Type 0 where
+  pub commitments-size : length (d .commitments) ≡ places
+  pub wrong-size : length (d .wrong) ≡ mostParties
+  pub senders : Senders (setup .n) (d .count) (d .dealers) l
+  pub slots : Slots element identity (quorum (setup .t) (setup .a)) (d .commitments) l
+  pub wrong-is : Marks (wrongShares setup) (d .wrong) l
+  pub admitted : All (λ s. dealingRefusal (setup .n) (setup .t) (setup .a) s ≡ 0) l
+
+-- l holds the accepted VE, whose masks are kept; only accepted dealers are blamed
+pub record ComplaintsOf (setup : Setup) (dealers : ℕ) (c : Complaints) (l : List (List ℕ)) : Type 0 where
+  pub senders : Senders (setup .n) (c .count) (c .holders) l
+  pub masks-size : length (c .masks) ≡ mostParties
+  pub masks-are : Marks (λ s. numberAt s 4) (c .masks) l
+  pub blamed-is : (i : ℕ) → has (blamedBy (setup .n) c) i ≡ some (λ s. has (numberAt s 4) i) l
+  pub founded : All (λ s. (i : ℕ) → has (numberAt s 4) i ≡ true → has dealers i ≡ true) l
+
+-- s is the accepted CH; empty before there is one, and then every number is 0
+pub record ChallengesOf (setup : Setup) (kept : List Scalar) (s : List ℕ) : Type 0 where
+  pub size : length kept ≡ cells
+  pub challenge-is : (x : ℕ) → x < setup .a * batch (setup .n) (setup .t) → getD kept x (scalar 0) ≡ scalar (word s 4 x)
+
+-- l holds the accepted RE
+pub record ResponsesOf (setup : Setup) (p : Responses) (l : List (List ℕ)) : Type 0 where
+  pub numbers-size : length (p .numbers) ≡ places
+  pub senders : Senders (setup .n) (p .count) (p .responders) l
+  pub slots : Slots scalar (scalar 0) (batch (setup .n) (setup .t)) (p .numbers) l
+
+-- a response row of a member of HOLD, whose numbers pass
+pub record PassingRow (w : Transcript) (holders : ℕ) (s : List ℕ) : Type 0 where
+  pub held : has holders (sender s) ≡ true
+  pub passing : (x : ℕ) → x < batch (w .n) (w .t) → passes w (x + 1) (sender s) (scalar (word s 4 x)) ≡ true
+
+-- need rows are there, and every φ
+pub record Done (r : Run) : Type 0 where
+  pub full : r .responses .count ≡ quorum (r .setup .t) (r .setup .a)
+  pub signatures : (x : ℕ) → x < r .setup .a * batch (r .setup .n) (r .setup .t) → getD (r .signatures) x (scalar 0) ≡ phiOf (r .setup .n) (r .responses) (x / r .setup .a + 1) (x % r .setup .a + 1)
+
+-- n-t dealings end stage 1, n-t complaint rows stage 2; and more than t dealers are in BAD at stage 6 alone
+pub record Counts (stage : ℕ) (setup : Setup) (d : Dealings) (c : Complaints) : Type 0 where
+  pub dealing : stage ≡ 1 → d .count < setup .n - setup .t
+  pub dealt : 1 < stage → d .count ≡ setup .n - setup .t
+  pub complaining : stage ≤ 2 → c .count < setup .n - setup .t
+  pub complained : 2 < stage → c .count ≡ setup .n - setup .t
+  pub few-bad : 2 < stage → stage < 6 → count (setup .n) (has (blamedBy (setup .n) c)) ≤ setup .t
+  pub many-bad : stage ≡ 6 → setup .t < count (setup .n) (has (blamedBy (setup .n) c))
+
+-- what the stage says; f holds the accepted records of each tag
+pub record AtStage (stage : ℕ) (r : Run) (f : Tag → List (List ℕ)) : Type 0 where
+  pub stage-pos : 0 < stage
+  pub stage-max : stage ≤ 6
+  pub counts : Counts stage (r .setup) (r .dealings) (r .complaints)
+  pub early : stage < 4 → (f CH ≡ []) × (f RE ≡ [])
+  pub one-setup : length (f SU) ≡ 1
+  pub challenged : 3 < stage → stage < 6 → length (f CH) ≡ 1
+  pub done : stage ≡ 5 → Done r
+
+-- ---- the invariant
+
+-- of a run past stage 0
+pub record Live (r : Run) (f : Tag → List (List ℕ)) : Type 0 where
+  pub setup : SetupOf (r .setup) (first (f SU))
+  pub dealings : DealingsOf (r .setup) (r .dealings) (f DE)
+  pub complaints : ComplaintsOf (r .setup) (r .dealings .dealers) (r .complaints) (f VE)
+  pub challenges : ChallengesOf (r .setup) (r .challenges) (first (f CH))
+  pub responses : ResponsesOf (r .setup) (r .responses) (f RE)
+  pub rows : All (PassingRow (transcriptOf r) (r .complaints .holders)) (f RE)
+  pub signatures-size : length (r .signatures) ≡ cells
+  pub stage : AtStage (r .stage) r f
+
+-- need response rows end stage 4
+abbrev pub Responding : Run → Type 0
+Responding r = r .stage ≡ 4 → r .responses .count < quorum (r .setup .t) (r .setup .a)
+
+-- of a run and the accepted records of its list
+pub record Invariant (r : Run) (l : List (List ℕ)) : Type 0 where
+  pub start : r .stage ≡ 0 → l ≡ []
+  pub live : 0 < r .stage → Live r (λ g. ofTag g l)
+  pub responding : Responding r
+
+-- ---- what follows
+
+module _ (setup : Setup) (s : List ℕ) (h : SetupOf setup s) where
+  pub setup-bounds : Bounds (setup .n) (setup .t) (setup .a)
+  unfolding setupOf
+  setup-bounds = subst (λ (z : Setup). Bounds (z .n) (z .t) (z .a)) (sym (h .setup-is)) (setup-passed s (h .admitted) .bounds)
+
+  -- S is key 0, and S_j key j
+  pub key-is : (j : ℕ) → j ≤ setup .t → getD (setup .key) j identity ≡ element (word s 6 j)
+  unfolding setupOf noSetup
+  key-is j l =
+      ap (λ (z : Setup). getD (z .key) j identity) (h .setup-is)
+      ∙ stored-from _ (byteAt s 3 + 1) _ identity (omega (arith, length-filled mostParties identity, key-max setup-bounds, ap (λ (z : Setup). z .t) (h .setup-is))) j
+      (omega (arith, ap (λ (z : Setup). z .t) (h .setup-is)))
+
+  pub key-element : (j : ℕ) → j ≤ setup .t → IsElement (getD (setup .key) j identity)
+  unfolding setupOf
+  key-element j l = rw (key-is j l) (setup-passed s (h .admitted) .elements j (omega (arith, ap (λ (z : Setup). z .t) (h .setup-is))))
+
+pub commitment-element : (setup : Setup) (d : Dealings) (l : List (List ℕ)) → DealingsOf setup d l
+    → (i v : ℕ) → 0 < i → has (d .dealers) i ≡ true → v < quorum (setup .t) (setup .a) → IsElement (getD (d .commitments) (base i + v) identity)
+commitment-element setup d l h i v p e k =
+    let sent : sentBy i l ≡ true = sym (h .senders .mask-is i) ∙ e in
+    rw (h .slots i v p k sent) (dealing-passed (setup .n) (setup .t) (setup .a) (recordOf i l) (recordOf-all i _ l (h .admitted) sent) .elements v k)
+
+module _ (r : Run) (f : Tag → List (List ℕ)) (h : Live r f) where
+  pub live-bounds : Bounds (r .setup .n) (r .setup .t) (r .setup .a)
+  live-bounds = setup-bounds (r .setup) (first (f SU)) (h .setup)
+
+  pub live-well-formed : wellFormed r ≡ true
+  live-well-formed =
+      formed-test (record {
+        stage-max = h .stage .stage-max;
+        bounds = live-bounds;
+        dealings-max = senders-max (h .dealings .senders);
+        complaints-max = senders-max (h .complaints .senders);
+        responses-max = senders-max (h .responses .senders);
+      })
+
+-- its stage counts as it stands
+pub stage-of : (r : Run) (l : List (List ℕ)) → Invariant r l → stageOf r ≡ r .stage
+unfolding stageOf
+stage-of r l h =
+    pick-case (λ z. z ≡ r .stage) (eqb (r .stage) 0) 0 (pick (wellFormed r) (r .stage) 6) (λ e. sym (eqb-true (r .stage) 0 e))
+    (λ e. rw (live-well-formed r _ (h .live (omega (arith, eqb-false (r .stage) 0 e)))))

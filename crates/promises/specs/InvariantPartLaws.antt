@@ -1,0 +1,169 @@
+-- The parts of the invariant with no record, and with one more: what an accepted DE, VE and RE tells, and what it adds. Assumes nothing.
+use mathlib.Core.Path.{_≡_, sym, ap, _∙_}
+use mathlib.Core.Bool.{Bool, true, not, _||_}
+use mathlib.Core.List.{List, []}
+use Prim.Native.Nat.{ℕ, _+_, _-_, _^_, _≤_, _<_}
+use native.Mathlib.Omega.{arith}
+use native.Mathlib.Decide.{decLt}
+use lib.ListN.{length-set}
+use Rattle.lists.specs.Tests.{allTo}
+use Rattle.lists.specs.TestLaws.{all-at, no-both, not-yes, and-left, passed, or-next}
+use Rattle.lists.specs.MemberLaws.{all-map, all-snoc}
+use Rattle.lists.specs.StoreLaws.{length-stored, length-filled}
+use Rattle.sets.specs.Masks.{has, insert}
+use Rattle.sets.specs.MaskLaws.{has-insert, has-above}
+use Rattle.field.specs.Definitions.{scalar, element, identity}
+use Rattle.records.specs.Parameters.{mostParties, places, quorum, batch}
+use Rattle.records.specs.Bytes.{numberAt, sender}
+use Rattle.refusals.specs.Refusals.{dealingRefusal}
+use Rattle.records.specs.RecordLaws.{Bounds, quorum-max, batch-max}
+use Rattle.refusals.specs.RefusalLaws.{dealing-passed, complaint-passed, response-passed}
+use Rattle.dealing.specs.declared.Setup.{Setup}
+use Rattle.dealing.specs.declared.Dealings.{Dealings}
+use Rattle.complaint.specs.declared.Complaints.{Complaints}
+use Rattle.response.specs.declared.Responses.{Responses}
+use Rattle.run.specs.declared.Run.{Run}
+use Rattle.dealing.specs.Definitions.{noDealings, dealingNumber, wrongShares, withDealing, mayBlame}
+use Rattle.complaint.specs.Definitions.{noComplaints, complaintNumber, withComplaint, blamedBy}
+use Rattle.response.specs.Definitions.{noResponses, responseNumber, withResponse, transcript}
+use Rattle.run.specs.Runs.{transcriptOf}
+use Rattle.complaint.specs.ComplaintLaws.{blamed-none, blamed-more}
+use Rattle.promises.specs.Lists.{some}
+use Rattle.promises.specs.ListLaws.{snoc, some-snoc}
+use Rattle.promises.specs.SenderLaws.{New, has-pos, senders-none, slots-none, marks-none, senders-more, slots-more, marks-more}
+use Rattle.promises.specs.InvariantLaws.{DealingsOf, ComplaintsOf, ResponsesOf, PassingRow}
+
+-- ---- no record
+
+pub no-dealings : (setup : Setup) → DealingsOf setup noDealings []
+unfolding noDealings some
+no-dealings setup =
+    record {
+      commitments-size = length-filled places identity;
+      wrong-size = length-filled {A = ℕ} mostParties 0;
+      senders = senders-none (setup .n);
+      slots = slots-none element identity (quorum (setup .t) (setup .a)) (noDealings .commitments);
+      wrong-is = marks-none (wrongShares setup) (noDealings .wrong);
+      admitted = tt;
+    }
+
+pub no-complaints : (setup : Setup) (dealers : ℕ) → ComplaintsOf setup dealers noComplaints []
+unfolding noComplaints some
+no-complaints setup dealers =
+    record {
+      senders = senders-none (setup .n);
+      masks-size = length-filled {A = ℕ} mostParties 0;
+      masks-are = marks-none (λ s. numberAt s 4) (noComplaints .masks);
+      blamed-is = blamed-none (setup .n);
+      founded = tt;
+    }
+
+pub no-responses : (setup : Setup) → ResponsesOf setup noResponses []
+unfolding noResponses
+no-responses setup =
+    record {
+      numbers-size = length-filled places (scalar 0);
+      senders = senders-none (setup .n);
+      slots = slots-none scalar (scalar 0) (batch (setup .n) (setup .t)) (noResponses .numbers);
+    }
+
+-- ---- DE
+
+pub dealing-new : (r : Run) (s : List ℕ) → dealingNumber (r .setup) (r .dealings) s ≡ 0
+    → (dealingRefusal (r .setup .n) (r .setup .t) (r .setup .a) s ≡ 0) × New (r .setup .n) (r .dealings .dealers) s
+unfolding dealingNumber
+dealing-new r s e =
+    let c = or-next _ _ e in
+    let p = dealing-passed _ _ _ s (c .0) in
+    (c .0, record { sender-pos = p .sender-pos; sender-max = p .sender-max; unsent = not-yes _ (passed _ 12 0 (c .1) (omega arith) .0) })
+
+module _ (setup : Setup) (d : Dealings) (s : List ℕ) (l : List (List ℕ)) (b : Bounds (setup .n) (setup .t) (setup .a)) (c : New (setup .n) (d .dealers) s) (h : DealingsOf setup d l) where
+  pub dealings-more : dealingRefusal (setup .n) (setup .t) (setup .a) s ≡ 0 → DealingsOf setup (withDealing setup d s) (snoc l s)
+  unfolding withDealing
+  dealings-more e =
+      record {
+        commitments-size = length-stored (d .commitments) _ _ _ ∙ h .commitments-size;
+        wrong-size = length-set (d .wrong) _ _ ∙ h .wrong-size;
+        senders = senders-more s (b .n-max) c (h .senders);
+        slots = slots-more s (b .n-max) c (h .senders) element identity _ (d .commitments) (omega (arith, quorum-max b)) (h .commitments-size) (h .slots);
+        wrong-is = marks-more s (b .n-max) c (h .senders) (wrongShares setup) (d .wrong) (h .wrong-size) (h .wrong-is);
+        admitted = all-snoc _ l s (h .admitted) e;
+      }
+
+-- ---- VE
+
+-- one more dealer
+pub complaints-kept : (setup : Setup) (dealers : ℕ) (c : Complaints) (s : List ℕ) (l : List (List ℕ)) → setup .n ≤ mostParties → New (setup .n) dealers s
+    → ComplaintsOf setup dealers c l → ComplaintsOf setup (insert dealers (sender s)) c l
+complaints-kept setup dealers c s l b new h =
+    record {
+      senders = h .senders;
+      masks-size = h .masks-size;
+      masks-are = h .masks-are;
+      blamed-is = h .blamed-is;
+      founded = all-map _ _ (λ x f i e. rw (has-insert dealers (sender s) i (new .sender-pos) (omega arith), f i e)) l (h .founded);
+    }
+
+-- a mask that passes blames accepted dealers alone
+blames-dealers : (n j mask : ℕ) (d : Dealings) → mask < 2 ^ n → allTo n (λ i. not (has mask (i + 1)) || mayBlame d j (i + 1)) ≡ true
+    → (i : ℕ) → has mask i ≡ true → has (d .dealers) i ≡ true
+unfolding mayBlame
+blames-dealers n j mask d l e i h = and-left (has (d .dealers) i) _ (go (decLt n i))
+  where
+    pos : 0 < i
+    pos = has-pos mask i h
+
+    back : i - 1 + 1 ≡ i
+    back = omega (arith, pos)
+
+    go : Dec (n < i) → mayBlame d j i ≡ true
+    go (yes k) = absurd (no-both h (has-above mask n i l k))
+    go (no k) = rw (back, h) at (all-at n _ e (i - 1) (omega (arith, pos)))
+
+pub complaint-new : (r : Run) (s : List ℕ) → complaintNumber (r .setup) (r .dealings) (r .complaints) s ≡ 0
+    → New (r .setup .n) (r .complaints .holders) s × ((i : ℕ) → has (numberAt s 4) i ≡ true → has (r .dealings .dealers) i ≡ true)
+unfolding complaintNumber
+complaint-new r s e =
+    let c = or-next _ _ e in
+    let p = complaint-passed _ s (c .0) in
+    let p₁ = passed _ 12 _ (c .1) (omega arith) in
+    let p₂ = passed _ 13 0 (p₁ .1) (omega arith) in
+    (record { sender-pos = p .sender-pos; sender-max = p .sender-max; unsent = not-yes _ (p₁ .0) }, blames-dealers (r .setup .n) (sender s) (numberAt s 4) (r .dealings) (p .mask) (p₂ .0))
+
+pub complaints-more : (setup : Setup) (dealers : ℕ) (c : Complaints) (s : List ℕ) (l : List (List ℕ)) → setup .n ≤ mostParties → New (setup .n) (c .holders) s
+    → ((i : ℕ) → has (numberAt s 4) i ≡ true → has dealers i ≡ true) → ComplaintsOf setup dealers c l → ComplaintsOf setup dealers (withComplaint c s) (snoc l s)
+unfolding withComplaint
+complaints-more setup dealers c s l b new blames h =
+    record {
+      senders = senders-more s b new (h .senders);
+      masks-size = length-set (c .masks) _ _ ∙ h .masks-size;
+      masks-are = marks-more s b new (h .senders) (λ x. numberAt x 4) (c .masks) (h .masks-size) (h .masks-are);
+      blamed-is = λ i. more i ∙ ap (λ (z : Bool). z || has (numberAt s 4) i) (h .blamed-is i) ∙ sym (some-snoc (λ x. has (numberAt x 4) i) l s);
+      founded = all-snoc _ l s (h .founded) blames;
+    }
+  where
+    more : (i : ℕ) → has (blamedBy (setup .n) (withComplaint c s)) i ≡ (has (blamedBy (setup .n) c) i || has (numberAt s 4) i)
+    more = blamed-more (setup .n) c s (h .masks-size) b (new .sender-pos) (new .sender-max) (new .unsent)
+
+-- ---- RE
+
+pub response-new : (r : Run) (s : List ℕ) → responseNumber (r .setup) (r .dealings) (r .complaints) (r .challenges) (r .responses) s ≡ 0
+    → New (r .setup .n) (r .responses .responders) s × PassingRow (transcriptOf r) (r .complaints .holders) s
+unfolding responseNumber transcriptOf transcript
+response-new r s e =
+    let c = or-next _ _ e in
+    let p = response-passed _ _ s (c .0) in
+    let p₁ = passed _ 12 _ (c .1) (omega arith) in
+    let p₂ = passed _ 14 _ (p₁ .1) (omega arith) in
+    let p₃ = passed _ 15 0 (p₂ .1) (omega arith) in
+    (record { sender-pos = p .sender-pos; sender-max = p .sender-max; unsent = not-yes _ (p₁ .0) }, record { held = p₂ .0; passing = all-at _ _ (p₃ .0) })
+
+pub responses-more : (setup : Setup) (p : Responses) (s : List ℕ) (l : List (List ℕ)) → Bounds (setup .n) (setup .t) (setup .a) → New (setup .n) (p .responders) s
+    → ResponsesOf setup p l → ResponsesOf setup (withResponse setup p s) (snoc l s)
+unfolding withResponse
+responses-more setup p s l b c h =
+    record {
+      numbers-size = length-stored (p .numbers) _ _ _ ∙ h .numbers-size;
+      senders = senders-more s (b .n-max) c (h .senders);
+      slots = slots-more s (b .n-max) c (h .senders) scalar (scalar 0) _ (p .numbers) (omega (arith, batch-max b)) (h .numbers-size) (h .slots);
+    }
