@@ -1,4 +1,7 @@
 -- `next_length` meets its contract. Assumes nothing.
+use mathlib.Core.Path.{_≡_}
+use mathlib.Core.Bool.{false}
+use lib.Dec.{leb}
 use borrow.Author.Needs.{needs}
 use borrow.Author.Tests.{le-leb, lt-leb}
 use Rattle.log.specs.Cutting.{whole}
@@ -15,7 +18,9 @@ returns c = rw (← c .before .record-length .ensures, lt-leb 1 _ (c .if1 .taken
 
 returns-2 : tie.Need-returns-2
 unfolding nextLength whole
-returns-2 c = rw (← c .before .before .record-length .ensures, le-leb 1 _ (c .before .if1 .left), lt-leb _ _ (c .if2 .taken))
+returns-2 c =
+    let short : leb (c .before .before .record-length .result) _ ≡ false = lt-leb _ _ (c .if2 .taken) in
+    rw (← c .before .before .record-length .ensures, le-leb 1 _ (c .before .if1 .left), short)
 
 returns-3 : tie.Need-returns-3
 unfolding nextLength whole
