@@ -1,20 +1,20 @@
--- Transcripts that are alike have the same nonce commitments. Assumes nothing.
+-- Transcripts that are alike have the same nonce commitments, shifted or not. Assumes nothing.
 use mathlib.Core.Path.{_≡_, refl, ap, ap₂, _∙_}
 use mathlib.Core.Bool.{true}
 use Prim.Native.Nat.{ℕ, _≤_, _<_}
 use Rattle.field.specs.declared.Scalar.{Scalar}
 use Rattle.field.specs.declared.Element.{Element}
-use Rattle.field.specs.Definitions.{powered}
+use Rattle.field.specs.Definitions.{generator, product, powered, raise}
 use Rattle.interpolation.specs.Definitions.{slot, committedPoint, elementAt}
 use Rattle.interpolation.specs.RowLaws.{elementAt-cong}
 use Rattle.records.specs.Parameters.{quorum}
-use Rattle.protocol.specs.Transcript.{Transcript, dealingAt, exponent, productOver, combinedAt, nonce, dealerFactor}
+use Rattle.protocol.specs.Transcript.{Transcript, dealingAt, exponent, productOver, combinedAt, nonce, shiftedNonce, dealerFactor}
 use Rattle.protocol.specs.ProductLaws.{productOver-cong}
 use Rattle.protocol.specs.Alike.{Alike}
 
 -- what dealers outside QUAL committed to is free
 pub alike-outside : (w : Transcript) (other : ℕ → ℕ → Element) → ((i v : ℕ) → w .qual i ≡ true → w .commitment i v ≡ other i v)
-    → Alike w (record { n = w .n; t = w .t; a = w .a; key = w .key; qual = w .qual; commitment = other; challenge = w .challenge })
+    → Alike w (record { n = w .n; t = w .t; a = w .a; key = w .key; qual = w .qual; commitment = other; challenge = w .challenge; shift = w .shift })
 alike-outside w other h =
     record {
       n-same = refl;
@@ -24,6 +24,7 @@ alike-outside w other h =
       qual-same = λ i p l. refl;
       commitment-same = λ i v p l e c. h i v e;
       challenge-same = λ u k p l x y. refl;
+      shift-same = refl;
     }
 
 module _ (w z : Transcript) (h : Alike w z) where
@@ -47,3 +48,7 @@ module _ (w z : Transcript) (h : Alike w z) where
   pub nonce-same : (u k : ℕ) → nonce w u k ≡ nonce z u k
   unfolding nonce
   nonce-same u k = combined-same u (slot k)
+
+  pub shifted-same : (u k : ℕ) → shiftedNonce w u k ≡ shiftedNonce z u k
+  unfolding shiftedNonce
+  shifted-same u k = ap₂ (λ (v : Element) (d : Scalar). product v (raise generator d)) (nonce-same u k) (h .shift-same)

@@ -3,3 +3,4 @@ pub mod ProductLaws
 pub mod Alike
 pub mod AlikeLaws
 pub mod Signature
+pub mod ShiftLaws

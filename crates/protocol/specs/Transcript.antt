@@ -1,4 +1,4 @@
--- What the public values of a committee come to (document 01, "Points and weights").
+-- What the public values of a committee come to (document 01, "Points and weights"; the shift is of document 02, request 2.1).
 use Prim.Native.Nat.{ℕ, _+_, _-_, _^_}
 use mathlib.Core.Bool.{Bool}
 use Rattle.algebra.specs.Fold.{fold}
@@ -9,7 +9,7 @@ use Rattle.field.specs.Definitions.{scalar, identity, generator, sameElement, p
 use Rattle.interpolation.specs.Definitions.{party, slot, committedPoint, scalarAt, elementAt}
 use Rattle.records.specs.Parameters.{quorum}
 
--- key 0 is S and key j is S_j; commitment i v is V(v + 1 - a) of dealer i; challenge u k is e(u,k)
+-- key 0 is S and key j is S_j; commitment i v is V(v + 1 - a) of dealer i; challenge u k is e(u,k); shift is δ
 pub record Transcript : Type 0 where
   pub n : ℕ
   pub t : ℕ
@@ -18,6 +18,7 @@ pub record Transcript : Type 0 where
   pub qual : ℕ → Bool
   pub commitment : ℕ → ℕ → Element
   pub challenge : ℕ → ℕ → Scalar
+  pub shift : Scalar
 
 -- a dealing's committed values at x
 unfoldable pub dealingAt : ℕ → ℕ → (ℕ → Element) → Scalar → Element
@@ -51,9 +52,13 @@ module _ (w : Transcript) where
   unfoldable pub combinedAt : ℕ → Scalar → Element
   combinedAt u x = productOver (w .n) (w .qual) (dealerFactor u x)
 
-  -- R(u,k)
+  -- R(u,k), before the shift
   unfoldable pub nonce : ℕ → ℕ → Element
   nonce u k = combinedAt u (slot k)
+
+  -- R(u,k) × 4^δ: what is printed for R(u,k)
+  unfoldable pub shiftedNonce : ℕ → ℕ → Element
+  shiftedNonce u k = product (nonce u k) (raise generator (w .shift))
 
   -- E_u(x): degree at most a-1, E_u(1-k) = e(u,k)
   unfoldable pub challengeAt : ℕ → Scalar → Scalar

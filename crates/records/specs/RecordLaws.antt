@@ -7,7 +7,7 @@ use native.Mathlib.Omega.{arith}
 use native.Mathlib.Nat.{mul-le-mul, le-trans}
 use borrow.Author.Tests.{leb-true, le-leb}
 use Rattle.records.specs.Parameters.{mostParties, cells, inBounds, quorum, batch, isParty}
-use Rattle.records.specs.Tags.{Tag, SU, DE, VE, CH, RE, unknown, code, decoded}
+use Rattle.records.specs.Tags.{Tag, SU, DE, VE, CH, CS, RE, unknown, code, decoded}
 
 -- ---- tags
 
@@ -18,6 +18,7 @@ decoded-code SU = refl
 decoded-code DE = refl
 decoded-code VE = refl
 decoded-code CH = refl
+decoded-code CS = refl
 decoded-code RE = refl
 decoded-code unknown = refl
 

@@ -1,4 +1,4 @@
--- The five kinds of record and their lengths (document 01, "Records"; its word for a tag is mark).
+-- The six kinds of record and their lengths (document 01, "Records"; its word for a tag is mark. CS is of document 02, request 2.1).
 use Prim.Native.Nat.{ℕ, _+_, _*_}
 use mathlib.Core.List.{List}
 use lib.ListN.{length}
@@ -7,12 +7,13 @@ use Rattle.lists.specs.Tests.{pick}
 use Rattle.records.specs.Parameters.{quorum, batch}
 use Rattle.records.specs.Bytes.{byteAt}
 
--- VE is a complaint row (verdict, in document 01)
+-- VE is a complaint row (verdict, in document 01); CS has a shift before the challenges of a CH
 pub data Tag : Type 0 where
   SU : Tag
   DE : Tag
   VE : Tag
   CH : Tag
+  CS : Tag
   RE : Tag
   unknown : Tag
 
@@ -23,11 +24,12 @@ code DE = 2
 code VE = 3
 code CH = 4
 code RE = 5
+code CS = 6
 code unknown = 0
 
 -- and back
 unfoldable pub decoded : ℕ → Tag
-decoded k = pick (eqb k 1) SU (pick (eqb k 2) DE (pick (eqb k 3) VE (pick (eqb k 4) CH (pick (eqb k 5) RE unknown))))
+decoded k = pick (eqb k 1) SU (pick (eqb k 2) DE (pick (eqb k 3) VE (pick (eqb k 4) CH (pick (eqb k 5) RE (pick (eqb k 6) CS unknown)))))
 
 -- the letters of the tags, in ASCII
 abbrev pub letterC : ℕ
@@ -67,7 +69,8 @@ tagOf s =
     (pick (eqb m (pair letterD letterE)) DE
     (pick (eqb m (pair letterV letterE)) VE
     (pick (eqb m (pair letterC letterH)) CH
-    (pick (eqb m (pair letterR letterE)) RE unknown)))))
+    (pick (eqb m (pair letterR letterE)) RE
+    (pick (eqb m (pair letterC letterS)) CS unknown))))))
 
 -- ---- lengths
 
@@ -82,6 +85,9 @@ complaintLength n = 8
 
 unfoldable pub challengesLength : ℕ → ℕ → ℕ → ℕ
 challengesLength n t a = 4 + 4 * (a * batch n t)
+
+unfoldable pub shiftedLength : ℕ → ℕ → ℕ → ℕ
+shiftedLength n t a = 8 + 4 * (a * batch n t)
 
 unfoldable pub responseLength : ℕ → ℕ → ℕ
 responseLength n t = 4 + 4 * batch n t

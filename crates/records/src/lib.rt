@@ -2,7 +2,7 @@
 ghost use mathlib.Core.Path.{_≡_};
 ghost use Rattle.records.specs.Parameters.{inBounds, quorum, batch, isParty};
 ghost use Rattle.records.specs.Bytes.{byteAt, numberAt, word};
-ghost use Rattle.records.specs.Tags.{code, tagOf, setupLength, dealingLength, complaintLength, challengesLength, responseLength, sharesFrom};
+ghost use Rattle.records.specs.Tags.{code, tagOf, setupLength, dealingLength, complaintLength, challengesLength, shiftedLength, responseLength, sharesFrom};
 use field::Element;
 use field::Scalar;
 
@@ -20,7 +20,7 @@ pub const PLACES: usize = PARTIES * STRIDE;
 // The places of the challenges, and of the numbers φ(u,k).
 pub const CELLS: usize = 512;
 
-// The five tags, two letters each.
+// The six tags, two letters each.
 const SU: u16 = b'S' as u16 * 256 + b'U' as u16;
 
 const DE: u16 = b'D' as u16 * 256 + b'E' as u16;
@@ -28,6 +28,8 @@ const DE: u16 = b'D' as u16 * 256 + b'E' as u16;
 const VE: u16 = b'V' as u16 * 256 + b'E' as u16;
 
 const CH: u16 = b'C' as u16 * 256 + b'H' as u16;
+
+const CS: u16 = b'C' as u16 * 256 + b'S' as u16;
 
 const RE: u16 = b'R' as u16 * 256 + b'E' as u16;
 
@@ -98,7 +100,7 @@ pub fn word(s: &[u8], at: u16, i: u16) -> u32
     number(s, at as u32 + 4 * i as u32)
 }
 
-// The tag (mark, in document 01) of a record: 1 SU, 2 DE, 3 VE, 4 CH, 5 RE, and 0 for none of these.
+// The tag (mark, in document 01) of a record: 1 SU, 2 DE, 3 VE, 4 CH, 5 RE, 6 CS, and 0 for none of these.
 pub fn tag(s: &[u8]) -> u8
     ensures { λ r. ⌜ r ≡ code (tagOf (now (s .entry))) ⌝ }
 {
@@ -112,6 +114,7 @@ pub fn tag(s: &[u8]) -> u8
         VE => 3,
         CH => 4,
         RE => 5,
+        CS => 6,
         _ => 0,
     }
 }
@@ -138,6 +141,12 @@ pub fn challenges_length(n: u8, t: u8, a: u8) -> usize
     ensures { λ r. ⌜ r ≡ challengesLength n t a ⌝ }
 {
     4 + 4 * (a as usize * batch(n, t) as usize)
+}
+
+pub fn shifted_length(n: u8, t: u8, a: u8) -> usize
+    ensures { λ r. ⌜ r ≡ shiftedLength n t a ⌝ }
+{
+    4 + challenges_length(n, t, a)
 }
 
 pub fn response_length(n: u8, t: u8) -> usize

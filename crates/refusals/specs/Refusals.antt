@@ -9,7 +9,7 @@ use Rattle.lists.specs.Tests.{allTo, require, orNext}
 use Rattle.field.specs.Definitions.{isScalar, isElement}
 use Rattle.records.specs.Parameters.{inBounds, quorum, batch, isParty}
 use Rattle.records.specs.Bytes.{byteAt, numberAt, word, sender}
-use Rattle.records.specs.Tags.{setupLength, dealingLength, complaintLength, challengesLength, responseLength, sharesFrom}
+use Rattle.records.specs.Tags.{setupLength, dealingLength, complaintLength, challengesLength, shiftedLength, responseLength, sharesFrom}
 
 -- SU: n, t, a, reserved; S, S_1 to S_t
 unfoldable pub setupRefusal : List ℕ → ℕ
@@ -43,12 +43,20 @@ complaintRefusal n s =
     orNext (headRefusal n (complaintLength n) s)
     (require (maskFits n (numberAt s 4)) 8 0)
 
+-- CH and CS alike: the length, two reserved, so many scalars
+unfoldable pub scalarsRefusal : ℕ → ℕ → List ℕ → ℕ
+scalarsRefusal size count s =
+    require (eqb (length s) size) 2
+    (require (eqb (byteAt s 2) 0 && eqb (byteAt s 3) 0) 3
+    (require (allTo count (λ x. isScalar (word s 4 x))) 6 0))
+
 -- CH: two reserved; the challenges
 unfoldable pub challengesRefusal : ℕ → ℕ → ℕ → List ℕ → ℕ
-challengesRefusal n t a s =
-    require (eqb (length s) (challengesLength n t a)) 2
-    (require (eqb (byteAt s 2) 0 && eqb (byteAt s 3) 0) 3
-    (require (allTo (a * batch n t) (λ x. isScalar (word s 4 x))) 6 0))
+challengesRefusal n t a s = scalarsRefusal (challengesLength n t a) (a * batch n t) s
+
+-- CS (document 02, request 2.1): two reserved; the shift; the challenges
+unfoldable pub shiftedRefusal : ℕ → ℕ → ℕ → List ℕ → ℕ
+shiftedRefusal n t a s = scalarsRefusal (shiftedLength n t a) (a * batch n t + 1) s
 
 -- RE: holder, reserved; b response numbers
 unfoldable pub responseRefusal : ℕ → ℕ → List ℕ → ℕ

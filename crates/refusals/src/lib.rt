@@ -3,7 +3,7 @@ ghost use mathlib.Core.Path.{_≡_};
 ghost use Rattle.lists.specs.Tests.{allTo};
 ghost use Rattle.field.specs.Definitions.{isScalar, isElement};
 ghost use Rattle.records.specs.Bytes.{word};
-ghost use Rattle.refusals.specs.Refusals.{maskFits, setupRefusal, headRefusal, dealingRefusal, complaintRefusal, challengesRefusal, responseRefusal};
+ghost use Rattle.refusals.specs.Refusals.{maskFits, setupRefusal, headRefusal, dealingRefusal, complaintRefusal, scalarsRefusal, challengesRefusal, shiftedRefusal, responseRefusal};
 use field::Element;
 use field::Scalar;
 
@@ -114,11 +114,11 @@ pub fn complaint_refusal(n: u8, s: &[u8]) -> u8
     0
 }
 
-// The refusal of challenges, or 0.
-pub fn challenges_refusal(n: u8, t: u8, a: u8, s: &[u8]) -> u8
-    ensures { λ r. ⌜ r ≡ challengesRefusal n t a (now (s .entry)) ⌝ }
+// The refusal of a record that holds scalars behind two reserved bytes, or 0: its length, these bytes, so many scalars.
+fn scalars_refusal(s: &[u8], size: usize, count: u16) -> u8
+    ensures { λ r. ⌜ r ≡ scalarsRefusal size count (now (s .entry)) ⌝ }
 {
-    if s.len() != records::challenges_length(n, t, a) {
+    if s.len() != size {
         return 2;
     }
     if records::byte(s, 2) != 0 {
@@ -127,10 +127,28 @@ pub fn challenges_refusal(n: u8, t: u8, a: u8, s: &[u8]) -> u8
     if records::byte(s, 3) != 0 {
         return 3;
     }
-    if !all_scalars(s, 4, a as u16 * records::batch(n, t) as u16) {
+    if !all_scalars(s, 4, count) {
         return 6;
     }
     0
+}
+
+// The refusal of challenges, or 0.
+pub fn challenges_refusal(n: u8, t: u8, a: u8, s: &[u8]) -> u8
+    ensures { λ r. ⌜ r ≡ challengesRefusal n t a (now (s .entry)) ⌝ }
+{
+    let size = records::challenges_length(n, t, a);
+    let count = a as u16 * records::batch(n, t) as u16;
+    scalars_refusal(s, size, count)
+}
+
+// The refusal of a shift with challenges, or 0.
+pub fn shifted_refusal(n: u8, t: u8, a: u8, s: &[u8]) -> u8
+    ensures { λ r. ⌜ r ≡ shiftedRefusal n t a (now (s .entry)) ⌝ }
+{
+    let size = records::shifted_length(n, t, a);
+    let count = a as u16 * records::batch(n, t) as u16 + 1;
+    scalars_refusal(s, size, count)
 }
 
 // The refusal of a response row, or 0.

@@ -26,6 +26,7 @@ use Rattle.dealing.specs.declared.Dealings.{Dealings}
 use Rattle.dealing.specs.Definitions.{keyIn}
 use Rattle.complaint.specs.declared.Complaints.{Complaints}
 use Rattle.complaint.specs.Definitions.{unblamed}
+use Rattle.response.specs.declared.Challenges.{Challenges}
 use Rattle.response.specs.declared.Responses.{Responses}
 use Rattle.response.specs.Definitions.{transcript, phiOf}
 use Rattle.response.specs.ResponseLaws.{combined-is}
@@ -52,29 +53,29 @@ module _ (setup : Setup) (list : List Element) (challenges : List Scalar) (qual 
   unfoldable pub fits : List ℕ → ℕ → Bool
   fits s i = sameElement (raise generator (scalar (word s 4 i))) (wanted (i + 1))
 
-module _ (setup : Setup) (d : Dealings) (c : Complaints) (challenges : List Scalar) (bounds : Bounds (setup .n) (setup .t) (setup .a)) (x : Scalar) where
+module _ (setup : Setup) (d : Dealings) (c : Complaints) (e : Challenges) (bounds : Bounds (setup .n) (setup .t) (setup .a)) (x : Scalar) where
   challenge-is : (u : ℕ)
-      → sumOf (weightsOf (listed (setup .a) (λ v. slot (v + 1))) x) (scalars (setup .a) (λ v. challengeIn (setup .a) challenges u (v + 1)))
-      ≡ challengeAt (transcript setup d c challenges) u x
+      → sumOf (weightsOf (listed (setup .a) (λ v. slot (v + 1))) x) (scalars (setup .a) (λ v. challengeIn (setup .a) (e .numbers) u (v + 1)))
+      ≡ challengeAt (transcript setup d c e) u x
   unfolding transcript challengeAt
-  challenge-is u = challenges-interpolated (setup .a) challenges u x (omega (arith, key-max bounds))
+  challenge-is u = challenges-interpolated (setup .a) (e .numbers) u x (omega (arith, key-max bounds))
 
   wanted-is : (u : ℕ)
-      → wanted setup (d .commitments) challenges (unblamed (setup .n) c (d .dealers)) (quorum (setup .t) (setup .a)) (keyAt (setup .t) (setup .a) (keyIn setup) x)
+      → wanted setup (d .commitments) (e .numbers) (unblamed (setup .n) c (d .dealers)) (quorum (setup .t) (setup .a)) (keyAt (setup .t) (setup .a) (keyIn setup) x)
       (weightsOf (listed (setup .a) (λ v. slot (v + 1))) x) (weightsOf (listed (quorum (setup .t) (setup .a)) (committedPoint (setup .a))) x) u
-      ≡ responseAt (transcript setup d c challenges) u x
+      ≡ responseAt (transcript setup d c e) u x
   unfolding wanted responseAt transcript
-  wanted-is u = ap₂ (λ (v : Element) (e : Scalar). product v (raise (keyAt (setup .t) (setup .a) (keyIn setup) x) e)) (combined-is setup d c challenges bounds x u) (challenge-is u)
+  wanted-is u = ap₂ (λ (v : Element) (y : Scalar). product v (raise (keyAt (setup .t) (setup .a) (keyIn setup) x) y)) (combined-is setup d c e bounds x u) (challenge-is u)
 
-module _ (setup : Setup) (d : Dealings) (c : Complaints) (challenges : List Scalar) (bounds : Bounds (setup .n) (setup .t) (setup .a)) (s : List ℕ) where
+module _ (setup : Setup) (d : Dealings) (c : Complaints) (e : Challenges) (bounds : Bounds (setup .n) (setup .t) (setup .a)) (s : List ℕ) where
   -- the numbers of a record fit where they pass for its sender
   row-is : (n : ℕ)
-      → allTo n (fits setup (d .commitments) challenges (unblamed (setup .n) c (d .dealers)) (quorum (setup .t) (setup .a)) (keyAt (setup .t) (setup .a) (keyIn setup) (party (sender s)))
+      → allTo n (fits setup (d .commitments) (e .numbers) (unblamed (setup .n) c (d .dealers)) (quorum (setup .t) (setup .a)) (keyAt (setup .t) (setup .a) (keyIn setup) (party (sender s)))
       (weightsOf (listed (setup .a) (λ v. slot (v + 1))) (party (sender s))) (weightsOf (listed (quorum (setup .t) (setup .a)) (committedPoint (setup .a))) (party (sender s))) s)
-      ≡ allTo n (λ i. passes (transcript setup d c challenges) (i + 1) (sender s) (scalar (word s 4 i)))
+      ≡ allTo n (λ i. passes (transcript setup d c e) (i + 1) (sender s) (scalar (word s 4 i)))
   unfolding fits passes
   row-is n =
-      all-cong n _ _ (λ i l. ap (λ (v : Element). sameElement (raise generator (scalar (word s 4 i))) v) (wanted-is setup d c challenges bounds (party (sender s)) (i + 1)))
+      all-cong n _ _ (λ i l. ap (λ (v : Element). sameElement (raise generator (scalar (word s 4 i))) v) (wanted-is setup d c e bounds (party (sender s)) (i + 1)))
 
   -- the same with what the calls answer
   pub row-tested : {j qual need b : ℕ} {x : Scalar} {key : Element} {slotPoints slotWeights points weights : Row}
@@ -88,8 +89,8 @@ module _ (setup : Setup) (d : Dealings) (c : Complaints) (challenges : List Scal
       → points ≡ listed need (committedPoint (setup .a))
       → weights ≡ weightsOf points x
       → b ≡ batch (setup .n) (setup .t)
-      → allTo b (fits setup (d .commitments) challenges qual need key slotWeights weights s)
-      ≡ allTo (batch (setup .n) (setup .t)) (λ i. passes (transcript setup d c challenges) (i + 1) (sender s) (scalar (word s 4 i)))
+      → allTo b (fits setup (d .commitments) (e .numbers) qual need key slotWeights weights s)
+      ≡ allTo (batch (setup .n) (setup .t)) (λ i. passes (transcript setup d c e) (i + 1) (sender s) (scalar (word s 4 i)))
   row-tested ej ex eq en ek es esw ep ew eb = rw (eb, ek, esw, ew, es, ep, ex, ej, eq, en) (row-is _)
 
 -- the weights are as many as the points

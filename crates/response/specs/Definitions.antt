@@ -1,4 +1,5 @@
--- The challenges and the accepted response rows (document 01, "The run"): when a row is taken, what is kept of it, and φ.
+-- The challenges, the shift and the accepted response rows (document 01, "The run"; document 02, request 2.1): when a row is taken, what is kept of it,
+-- and φ.
 use Prim.Native.Nat.{ℕ, _+_, _*_, _-_, _/_, _%_}
 use mathlib.Core.Bool.{not, _&&_}
 use mathlib.Core.List.{List}
@@ -7,9 +8,9 @@ use Rattle.lists.specs.Tests.{allTo, require, orNext}
 use Rattle.lists.specs.Stores.{stored, filled}
 use Rattle.sets.specs.Masks.{has, insert, members}
 use Rattle.field.specs.declared.Scalar.{Scalar}
-use Rattle.field.specs.Definitions.{scalar}
+use Rattle.field.specs.Definitions.{scalar, plus}
 use Rattle.interpolation.specs.Definitions.{party, slot, scalarAt}
-use Rattle.records.specs.Parameters.{places, batch}
+use Rattle.records.specs.Parameters.{places, cells, batch}
 use Rattle.records.specs.Bytes.{word, sender}
 use Rattle.refusals.specs.Refusals.{responseRefusal}
 use Rattle.protocol.specs.Transcript.{Transcript, passes}
@@ -19,12 +20,13 @@ use Rattle.dealing.specs.declared.Dealings.{Dealings}
 use Rattle.dealing.specs.Definitions.{keyIn}
 use Rattle.complaint.specs.declared.Complaints.{Complaints}
 use Rattle.complaint.specs.Definitions.{blamedBy}
+use Rattle.response.specs.declared.Challenges.{Challenges}
 use Rattle.response.specs.declared.Responses.{Responses}
 
 -- ---- the public values of a committee, from what is kept
 
-unfoldable pub transcript : Setup → Dealings → Complaints → List Scalar → Transcript
-transcript setup d c challenges =
+unfoldable pub transcript : Setup → Dealings → Complaints → Challenges → Transcript
+transcript setup d c e =
     record {
       n = setup .n;
       t = setup .t;
@@ -32,8 +34,27 @@ transcript setup d c challenges =
       key = keyIn setup;
       qual = λ i. has (d .dealers) i && not (has (blamedBy (setup .n) c) i);
       commitment = commitmentIn (d .commitments);
-      challenge = challengeIn (setup .a) challenges;
+      challenge = challengeIn (setup .a) (e .numbers);
+      shift = e .shift;
     }
+
+-- ---- the challenges and the shift
+
+-- none yet, and a shift of 0
+unfoldable pub noChallenges : Challenges
+noChallenges = record { shift = scalar 0; numbers = filled cells (scalar 0) }
+
+-- the challenges of a record, u outer, from a place on
+unfoldable pub challengesFrom : Setup → Challenges → ℕ → List ℕ → List Scalar
+challengesFrom setup e from s = stored (e .numbers) 0 (setup .a * batch (setup .n) (setup .t)) (λ x. scalar (word s from x))
+
+-- CH: the challenges behind two reserved bytes, and a shift of 0
+unfoldable pub withChallenges : Setup → Challenges → List ℕ → Challenges
+withChallenges setup e s = record { shift = scalar 0; numbers = challengesFrom setup e 4 s }
+
+-- CS: the shift behind two reserved bytes, then the challenges
+unfoldable pub withShifted : Setup → Challenges → List ℕ → Challenges
+withShifted setup e s = record { shift = scalar (word s 4 0); numbers = challengesFrom setup e 8 s }
 
 -- ---- the response rows
 
@@ -41,12 +62,12 @@ unfoldable pub noResponses : Responses
 noResponses = record { count = 0; responders = 0; numbers = filled places (scalar 0) }
 
 -- the refusal of an RE at stage 4: 12, then 14, then 15, after those from the input
-unfoldable pub responseNumber : Setup → Dealings → Complaints → List Scalar → Responses → List ℕ → ℕ
-responseNumber setup d c challenges p s =
+unfoldable pub responseNumber : Setup → Dealings → Complaints → Challenges → Responses → List ℕ → ℕ
+responseNumber setup d c e p s =
     orNext (responseRefusal (setup .n) (setup .t) s)
     (require (not (has (p .responders) (sender s))) 12
     (require (has (c .holders) (sender s)) 14
-    (require (allTo (batch (setup .n) (setup .t)) (λ x. passes (transcript setup d c challenges) (x + 1) (sender s) (scalar (word s 4 x)))) 15 0)))
+    (require (allTo (batch (setup .n) (setup .t)) (λ x. passes (transcript setup d c e) (x + 1) (sender s) (scalar (word s 4 x)))) 15 0)))
 
 unfoldable pub withResponse : Setup → Responses → List ℕ → Responses
 withResponse setup p s =
@@ -68,7 +89,11 @@ phiOf n p u k =
     scalarAt (λ i. party (getD (respondersOf n p) i 0)) (length (respondersOf n p))
     (λ i. getD (p .numbers) (base (getD (respondersOf n p) i 0) + (u - 1)) (scalar 0)) (slot k)
 
--- a list with every φ(u,k), u outer
-unfoldable pub signaturesOf : Setup → Responses → List Scalar → List Scalar
-signaturesOf setup p list =
-    stored list 0 (setup .a * batch (setup .n) (setup .t)) (λ x. phiOf (setup .n) p (x / setup .a + 1) (x % setup .a + 1))
+-- φ(u,k) + δ modulo q: what is kept for φ(u,k)
+unfoldable pub shiftedPhiOf : ℕ → Scalar → Responses → ℕ → ℕ → Scalar
+shiftedPhiOf n shift p u k = plus (phiOf n p u k) shift
+
+-- a list with every one, u outer
+unfoldable pub signaturesOf : Setup → Scalar → Responses → List Scalar → List Scalar
+signaturesOf setup shift p list =
+    stored list 0 (setup .a * batch (setup .n) (setup .t)) (λ x. shiftedPhiOf (setup .n) shift p (x / setup .a + 1) (x % setup .a + 1))

@@ -1,18 +1,17 @@
-// The challenges and the accepted response rows: the test of a row, what one more adds, and φ and R from what is kept.
+// The challenges with the shift, and the accepted response rows: the test of a row, what one more adds, and φ and R from what is kept.
 ghost use mathlib.Core.Path.{_≡_};
 ghost use mathlib.Core.Bool.{true};
-ghost use mathlib.Core.List.{List};
 ghost use Prim.Native.Nat.{_+_, _*_, _≤_};
 ghost use Rattle.lists.specs.Tests.{allTo};
 ghost use Rattle.lists.specs.Stores.{stored};
-ghost use Rattle.field.specs.declared.Scalar.{Scalar};
 ghost use Rattle.field.specs.Definitions.{scalar};
 ghost use Rattle.records.specs.Parameters.{inBounds, batch};
 ghost use Rattle.records.specs.Bytes.{word, sender};
 ghost use Rattle.protocol.specs.Transcript.{combinedAt, passes};
 ghost use Rattle.interpolation.specs.Rows.{basisOf};
 ghost use Rattle.arrays.specs.Arrays.{memberPoints};
-ghost use Rattle.response.specs.Definitions.{transcript, responseNumber, withResponse, phiOf, signaturesOf};
+ghost use Rattle.response.specs.declared.Challenges.{Challenges};
+ghost use Rattle.response.specs.Definitions.{transcript, challengesFrom, withChallenges, withShifted, responseNumber, withResponse, phiOf, signaturesOf};
 use complaint::Complaints;
 use dealing::Dealings;
 use dealing::Setup;
@@ -23,6 +22,12 @@ use records::CELLS;
 use records::PLACES;
 use records::STRIDE;
 
+// The challenges of the accepted CH or CS, u outer, and the shift δ: that of the CS, and 0 with a CH or before either.
+pub struct Challenges {
+    pub shift: Scalar,
+    pub numbers: [Scalar; CELLS],
+}
+
 // The accepted response rows. Holder j's numbers stand from (j - 1) × STRIDE.
 pub struct Responses {
     pub count: u8,
@@ -30,15 +35,15 @@ pub struct Responses {
     pub numbers: [Scalar; PLACES],
 }
 
-// The list with a record's challenges.
-pub fn load_challenges(list: [Scalar; CELLS], bytes: &[u8], count: u16) -> [Scalar; CELLS]
-    ensures { λ r. ⌜ r ≡ stored list 0 count (λ x. scalar (word (now (bytes .entry)) 4 x)) ⌝ }
+// The list with a record's challenges, which stand from a place on.
+fn load_challenges(list: [Scalar; CELLS], bytes: &[u8], from: u16, count: u16) -> [Scalar; CELLS]
+    ensures { λ r. ⌜ r ≡ stored list 0 count (λ x. scalar (word (now (bytes .entry)) from x)) ⌝ }
 {
     let mut next = list;
     for x in 0..count {
         let at = x as usize;
         if at < CELLS {
-            next[at] = Scalar(records::word(bytes, 4, x));
+            next[at] = Scalar(records::word(bytes, from, x));
         }
     }
     next
@@ -63,12 +68,13 @@ fn row_passes(
     setup: Setup,
     dealings: Dealings,
     complaints: Complaints,
-    challenges: [Scalar; CELLS],
+    challenges: Challenges,
     bytes: &[u8],
 ) -> bool
     requires { ⌜ inBounds (setup .n) (setup .t) (setup .a) ≡ true ⌝ }
     ensures { λ r. ⌜ r ≡ allTo (batch (setup .n) (setup .t)) (λ x. passes (transcript setup dealings complaints challenges) (x + 1) (sender (now (bytes .entry))) (scalar (word (now (bytes .entry)) 4 x))) ⌝ }
 {
+    let numbers = challenges.numbers;
     let qual = complaints.unblamed(setup.n, dealings.dealers);
     let quorum = records::quorum(setup.t, setup.a) as u8;
     let x = interpolation::point(records::byte(bytes, 2), 0);
@@ -85,7 +91,7 @@ fn row_passes(
             let weight = at_points.at[v as usize];
             image = image.mul(value.pow(weight));
         }
-        let challenge = at_slots.sum(arrays::challenge_values(challenges, setup.a, u + 1));
+        let challenge = at_slots.sum(arrays::challenge_values(numbers, setup.a, u + 1));
         let wanted = image.mul(key.pow(challenge));
         let sent = Element::GENERATOR.pow(Scalar(records::word(bytes, 4, u as u16)));
         if !sent.same(wanted) {
@@ -98,7 +104,7 @@ fn row_passes(
     passed
 }
 
-// R(u,k) at the point 1-k, and C_u(j) at j, whatever the challenges.
+// R(u,k) before the shift at the point 1-k, and C_u(j) at j, whatever the challenges.
 pub fn combined_at(
     setup: Setup,
     dealings: Dealings,
@@ -107,7 +113,7 @@ pub fn combined_at(
     x: Scalar,
 ) -> Element
     requires { ⌜ inBounds (setup .n) (setup .t) (setup .a) ≡ true ⌝ }
-    ensures { λ r. ⌜ ((challenges : List Scalar) → r ≡ combinedAt (transcript setup dealings complaints challenges) u x) ⌝ }
+    ensures { λ r. ⌜ ((challenges : Challenges) → r ≡ combinedAt (transcript setup dealings complaints challenges) u x) ⌝ }
 {
     let n = setup.n;
     let list = dealings.commitments;
@@ -120,6 +126,37 @@ pub fn combined_at(
         .product(values)
 }
 
+impl Challenges {
+    // The challenges of a record, which stand from a place on.
+    fn loaded(self, setup: Setup, bytes: &[u8], from: u16) -> [Scalar; CELLS]
+        ensures { λ r. ⌜ r ≡ challengesFrom setup self from (now (bytes .entry)) ⌝ }
+    {
+        let list = self.numbers;
+        let count = setup.a as u16 * records::batch(setup.n, setup.t) as u16;
+        load_challenges(list, bytes, from, count)
+    }
+
+    // Those of a CH: the shift is 0.
+    pub fn with(self, setup: Setup, bytes: &[u8]) -> Challenges
+        ensures { λ r. ⌜ r ≡ withChallenges setup self (now (bytes .entry)) ⌝ }
+    {
+        Challenges {
+            shift: Scalar::ZERO,
+            numbers: self.loaded(setup, bytes, 4),
+        }
+    }
+
+    // Those of a CS: the shift stands before the challenges.
+    pub fn with_shifted(self, setup: Setup, bytes: &[u8]) -> Challenges
+        ensures { λ r. ⌜ r ≡ withShifted setup self (now (bytes .entry)) ⌝ }
+    {
+        Challenges {
+            shift: Scalar(records::word(bytes, 4, 0)),
+            numbers: self.loaded(setup, bytes, 8),
+        }
+    }
+}
+
 impl Responses {
     // The refusal of a response row, or 0.
     pub fn number(
@@ -127,7 +164,7 @@ impl Responses {
         setup: Setup,
         dealings: Dealings,
         complaints: Complaints,
-        challenges: [Scalar; CELLS],
+        challenges: Challenges,
         bytes: &[u8],
     ) -> u8
         requires { ⌜ inBounds (setup .n) (setup .t) (setup .a) ≡ true ⌝ }
@@ -168,7 +205,7 @@ impl Responses {
         }
     }
 
-    // φ(u,k) from the accepted response rows, by the basis of their senders.
+    // φ(u,k) before the shift from the accepted response rows, by the basis of their senders.
     fn interpolated(self, n: u8, basis: Basis, u: u8, k: u8) -> Scalar
         requires { ⌜ basis ≡ basisOf (memberPoints n (self .responders)) ⌝ }
         ensures { λ r. ⌜ r ≡ phiOf n self u k ⌝ }
@@ -180,10 +217,10 @@ impl Responses {
             .sum(arrays::member_numbers(n, set, numbers, u))
     }
 
-    // The list with every φ, u outer.
-    pub fn signatures(self, setup: Setup, list: [Scalar; CELLS]) -> [Scalar; CELLS]
+    // The list with every shifted φ, u outer.
+    pub fn signatures(self, setup: Setup, shift: Scalar, list: [Scalar; CELLS]) -> [Scalar; CELLS]
         requires { ⌜ inBounds (setup .n) (setup .t) (setup .a) ≡ true ⌝ }
-        ensures { λ r. ⌜ r ≡ signaturesOf setup self list ⌝ }
+        ensures { λ r. ⌜ r ≡ signaturesOf setup shift self list ⌝ }
     {
         let a = setup.a;
         let basis = arrays::member_points(setup.n, self.responders).basis();
@@ -193,7 +230,7 @@ impl Responses {
             let u = (x / a as u16 + 1) as u8;
             let k = (x % a as u16 + 1) as u8;
             let phi = self.interpolated(setup.n, basis, u, k);
-            signatures[x as usize] = phi;
+            signatures[x as usize] = phi.add(shift);
         }
         signatures
     }

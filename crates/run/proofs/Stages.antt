@@ -7,11 +7,11 @@ use native.Mathlib.Omega.{arith}
 use lib.Dec.{eqb}
 use borrow.Author.Tests.{eqb-true}
 use Rattle.lists.specs.TestLaws.{pick-case}
-use Rattle.records.specs.Tags.{Tag, SU, DE, VE, CH, RE, unknown, code, decoded, tagOf}
+use Rattle.records.specs.Tags.{Tag, SU, DE, VE, CH, CS, RE, unknown, code, decoded, tagOf}
 use Rattle.records.specs.RecordLaws.{decoded-code}
 use Rattle.run.specs.declared.Run.{Run}
 use Rattle.run.specs.declared.Handler.{Handler}
-use Rattle.run.specs.declared.Handler.the-variants.{TakeSetup, TakeDealing, TakeComplaint, TakeChallenges, TakeResponse, Refuse}
+use Rattle.run.specs.declared.Handler.the-variants.{TakeSetup, TakeDealing, TakeComplaint, TakeChallenges, TakeShifted, TakeResponse, Refuse}
 use Rattle.run.specs.Runs.{wellFormed, stageOf}
 use Rattle.run.specs.RunLaws.{stage-live}
 use Rattle.run.specs.Steps.{takenAt, atStage, handlerAt, handled, stepOf, refusalOf, untaken}
@@ -22,6 +22,7 @@ Past TakeSetup = ⊥
 Past TakeDealing = Unit
 Past TakeComplaint = Unit
 Past TakeChallenges = Unit
+Past TakeShifted = Unit
 Past TakeResponse = Unit
 Past (Refuse k) = ⊥
 
@@ -37,6 +38,7 @@ past-stage SU stage = past-at SU stage TakeSetup (λ p. absurd p)
 past-stage DE stage = past-at DE stage TakeDealing (λ p. (omega arith, omega arith))
 past-stage VE stage = past-at VE stage TakeComplaint (λ p. (omega arith, omega arith))
 past-stage CH stage = past-at CH stage TakeChallenges (λ p. (omega arith, omega arith))
+past-stage CS stage = past-at CS stage TakeShifted (λ p. (omega arith, omega arith))
 past-stage RE stage = past-at RE stage TakeResponse (λ p. (omega arith, omega arith))
 past-stage unknown stage = λ p. absurd p
 

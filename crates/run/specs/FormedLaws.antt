@@ -11,19 +11,20 @@ use Rattle.lists.specs.TestLaws.{pick-case}
 use Rattle.sets.specs.Masks.{has, count}
 use Rattle.records.specs.Parameters.{mostParties, quorum}
 use Rattle.records.specs.Bytes.{byteAt}
-use Rattle.records.specs.Tags.{Tag, SU, DE, VE, CH, RE, unknown, tagOf}
-use Rattle.refusals.specs.Refusals.{setupRefusal, challengesRefusal}
+use Rattle.records.specs.Tags.{Tag, SU, DE, VE, CH, CS, RE, unknown, tagOf}
+use Rattle.refusals.specs.Refusals.{setupRefusal, challengesRefusal, shiftedRefusal}
 use Rattle.records.specs.RecordLaws.{Bounds, quorum-pos}
 use Rattle.refusals.specs.RefusalLaws.{setup-passed}
 use Rattle.run.specs.declared.Run.{Run}
 use Rattle.run.specs.declared.Reply.{Reply}
 use Rattle.dealing.specs.Definitions.{noSetup, noDealings, setupOf, withDealing, dealingNumber}
 use Rattle.complaint.specs.Definitions.{noComplaints, blamedBy, withComplaint, complaintStage, complaintNumber}
-use Rattle.response.specs.Definitions.{noResponses, withResponse, responseNumber}
-use Rattle.run.specs.Runs.{begun, fresh, stageOf}
+use Rattle.response.specs.declared.Challenges.{Challenges}
+use Rattle.response.specs.Definitions.{noResponses, withChallenges, withShifted, withResponse, responseNumber}
+use Rattle.run.specs.Runs.{setChallenges, begun, fresh, stageOf}
 use Rattle.run.specs.declared.Handler.{Handler}
-use Rattle.run.specs.declared.Handler.the-variants.{TakeSetup, TakeDealing, TakeComplaint, TakeChallenges, TakeResponse}
-use Rattle.run.specs.Steps.{afterSetup, afterDealing, afterComplaint, afterChallenges, withRow, finished, afterResponse, answered, takenAt, atStage, handlerAt, handled, stepOf, afterFrom}
+use Rattle.run.specs.declared.Handler.the-variants.{TakeSetup, TakeDealing, TakeComplaint, TakeChallenges, TakeShifted, TakeResponse}
+use Rattle.run.specs.Steps.{afterSetup, afterDealing, afterComplaint, afterChallenges, afterShifted, withRow, finished, afterResponse, answered, takenAt, atStage, handlerAt, handled, stepOf, afterFrom}
 use Rattle.run.specs.StepLaws.{stage-case, answered-case}
 use Rattle.run.specs.RunLaws.{Formed, stage-live}
 
@@ -134,9 +135,9 @@ module _ (r : Run) (h : Regular r) where
         responding = λ y. omega (arith, quorum-pos bounds);
       }
 
-  regular-challenges : (s : List ℕ) → r .stage ≡ 3 → Regular (afterChallenges r s)
-  unfolding afterChallenges
-  regular-challenges s e =
+  -- CH or CS
+  regular-challenges : (x : Challenges) → r .stage ≡ 3 → Regular (setChallenges r 4 x)
+  regular-challenges x e =
       let f = h .formed (omega arith) in
       let silent = h .responses-none (omega arith) in
       regular-past _ (omega arith) (omega arith) (f .bounds) (f .dealings-max) (f .complaints-max) (f .responses-max) (λ y. omega (arith, quorum-pos (f .bounds)))
@@ -176,11 +177,12 @@ module _ (r : Run) (h : Regular r) where
   kept-stage g p l e = stage-live r g e p l .0
 
   regular-tag : (g : Tag) (s : List ℕ) → Regular (handled (handlerAt g (stageOf r)) r s .run)
-  unfolding handlerAt handled takenAt
+  unfolding handlerAt handled takenAt afterChallenges afterShifted
   regular-tag SU s = regular-at SU TakeSetup s (λ e. regular-answered (setupRefusal s) (afterSetup s) (λ k. regular-setup s (setup-passed s k .bounds)))
   regular-tag DE s = regular-at DE TakeDealing s (λ e. regular-answered (dealingNumber (r .setup) (r .dealings) s) (afterDealing r s) (λ k. regular-dealing s (kept-stage 1 (omega arith) (omega arith) e)))
   regular-tag VE s = regular-at VE TakeComplaint s (λ e. regular-answered (complaintNumber (r .setup) (r .dealings) (r .complaints) s) (afterComplaint r s) (λ k. regular-complaint s (kept-stage 2 (omega arith) (omega arith) e)))
-  regular-tag CH s = regular-at CH TakeChallenges s (λ e. regular-answered (challengesRefusal (r .setup .n) (r .setup .t) (r .setup .a) s) (afterChallenges r s) (λ k. regular-challenges s (kept-stage 3 (omega arith) (omega arith) e)))
+  regular-tag CH s = regular-at CH TakeChallenges s (λ e. regular-answered (challengesRefusal (r .setup .n) (r .setup .t) (r .setup .a) s) (afterChallenges r s) (λ k. regular-challenges _ (kept-stage 3 (omega arith) (omega arith) e)))
+  regular-tag CS s = regular-at CS TakeShifted s (λ e. regular-answered (shiftedRefusal (r .setup .n) (r .setup .t) (r .setup .a) s) (afterShifted r s) (λ k. regular-challenges _ (kept-stage 3 (omega arith) (omega arith) e)))
   regular-tag RE s = regular-at RE TakeResponse s (λ e. regular-answered (responseNumber (r .setup) (r .dealings) (r .complaints) (r .challenges) (r .responses) s) (afterResponse r s) (λ k. regular-response s (kept-stage 4 (omega arith) (omega arith) e)))
   regular-tag unknown s = h
 

@@ -6,15 +6,15 @@ use Prim.Native.Nat.{ℕ}
 use lib.Dec.{eqb}
 use Rattle.lists.specs.Tests.{pick}
 use Rattle.records.specs.Tags.{tagOf}
-use Rattle.refusals.specs.Refusals.{setupRefusal, challengesRefusal}
+use Rattle.refusals.specs.Refusals.{setupRefusal, challengesRefusal, shiftedRefusal}
 use Rattle.dealing.specs.Definitions.{dealingNumber}
 use Rattle.complaint.specs.Definitions.{complaintNumber}
 use Rattle.response.specs.Definitions.{responseNumber}
 use Rattle.run.specs.declared.Run.{Run}
 use Rattle.run.specs.declared.Handler.{Handler}
-use Rattle.run.specs.declared.Handler.the-variants.{TakeSetup, TakeDealing, TakeComplaint, TakeChallenges, TakeResponse, Refuse}
+use Rattle.run.specs.declared.Handler.the-variants.{TakeSetup, TakeDealing, TakeComplaint, TakeChallenges, TakeShifted, TakeResponse, Refuse}
 use Rattle.run.specs.Runs.{stageOf}
-use Rattle.run.specs.Steps.{afterSetup, afterDealing, afterComplaint, afterChallenges, afterResponse, refused, answered, handled, refusalOf, handlerAt, stepOf, untaken}
+use Rattle.run.specs.Steps.{afterSetup, afterDealing, afterComplaint, afterChallenges, afterShifted, afterResponse, refused, answered, handled, refusalOf, handlerAt, stepOf, untaken}
 
 -- a record at its stage that is refused
 answered-refused : (r : Run) (k : ℕ) (next : Run) → (answered r k next .number ≡ 0 → ⊥) → answered r k next .run ≡ r
@@ -33,6 +33,7 @@ refusal-keeps r s = go (handlerAt (tagOf s) (stageOf r))
     go TakeDealing n = answered-refused r (dealingNumber (r .setup) (r .dealings) s) (afterDealing r s) n
     go TakeComplaint n = answered-refused r (complaintNumber (r .setup) (r .dealings) (r .complaints) s) (afterComplaint r s) n
     go TakeChallenges n = answered-refused r (challengesRefusal (r .setup .n) (r .setup .t) (r .setup .a) s) (afterChallenges r s) n
+    go TakeShifted n = answered-refused r (shiftedRefusal (r .setup .n) (r .setup .t) (r .setup .a) s) (afterShifted r s) n
     go TakeResponse n = answered-refused r (responseNumber (r .setup) (r .dealings) (r .complaints) (r .challenges) (r .responses) s) (afterResponse r s) n
     go (Refuse k) n = refl
 
@@ -45,5 +46,6 @@ untaken-refused r s = go (handlerAt (tagOf s) (stageOf r))
     go TakeDealing n = absurd (n refl)
     go TakeComplaint n = absurd (n refl)
     go TakeChallenges n = absurd (n refl)
+    go TakeShifted n = absurd (n refl)
     go TakeResponse n = absurd (n refl)
     go (Refuse k) n = refl

@@ -14,15 +14,16 @@ use Rattle.arrays.specs.Arrays.{cell}
 use Rattle.dealing.specs.declared.Setup.{Setup}
 use Rattle.dealing.specs.declared.Dealings.{Dealings}
 use Rattle.complaint.specs.declared.Complaints.{Complaints}
+use Rattle.response.specs.declared.Challenges.{Challenges}
 use Rattle.response.specs.declared.Responses.{Responses}
 use Rattle.dealing.specs.Definitions.{noSetup, noDealings}
 use Rattle.complaint.specs.Definitions.{noComplaints}
-use Rattle.response.specs.Definitions.{transcript, noResponses}
+use Rattle.response.specs.Definitions.{transcript, noChallenges, noResponses}
 use Rattle.run.specs.declared.Run.{Run}
 
 -- ---- a run from its parts, and with the stage and one part replaced
 
-abbrev pub assembled : ℕ → Setup → Dealings → Complaints → List Scalar → Responses → List Scalar → Run
+abbrev pub assembled : ℕ → Setup → Dealings → Complaints → Challenges → Responses → List Scalar → Run
 assembled stage setup dealings complaints challenges responses signatures =
     record {
       stage = stage;
@@ -40,7 +41,7 @@ setDealings r stage x = assembled stage (r .setup) x (r .complaints) (r .challen
 abbrev pub setComplaints : Run → ℕ → Complaints → Run
 setComplaints r stage x = assembled stage (r .setup) (r .dealings) x (r .challenges) (r .responses) (r .signatures)
 
-abbrev pub setChallenges : Run → ℕ → List Scalar → Run
+abbrev pub setChallenges : Run → ℕ → Challenges → Run
 setChallenges r stage x = assembled stage (r .setup) (r .dealings) (r .complaints) x (r .responses) (r .signatures)
 
 abbrev pub setResponses : Run → ℕ → Responses → Run
@@ -49,13 +50,13 @@ setResponses r stage x = assembled stage (r .setup) (r .dealings) (r .complaints
 abbrev pub setSignatures : Run → ℕ → List Scalar → Run
 setSignatures r stage x = assembled stage (r .setup) (r .dealings) (r .complaints) (r .challenges) (r .responses) x
 
--- ---- a fresh run: stage 0 and every list empty
+-- ---- a fresh run: stage 0, every list empty, and a shift of 0
 
 unfoldable pub noScalars : List Scalar
 noScalars = filled cells (scalar 0)
 
 unfoldable pub begun : ℕ → Setup → Run
-begun stage setup = assembled stage setup noDealings noComplaints noScalars noResponses noScalars
+begun stage setup = assembled stage setup noDealings noComplaints noChallenges noResponses noScalars
 
 unfoldable pub fresh : Run
 fresh = begun 0 noSetup

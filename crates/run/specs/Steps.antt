@@ -1,21 +1,18 @@
--- What a record does to a run (document 01, "The run", "From the input", "From the state").
+-- What a record does to a run (document 01, "The run", "From the input", "From the state"; CS is of document 02, request 2.1).
 use Prim.Native.Nat.{ℕ, _+_, _*_, _-_}
 use mathlib.Core.List.{List, [], _∷_}
 use lib.Dec.{eqb}
 use Rattle.lists.specs.Tests.{pick}
-use Rattle.lists.specs.Stores.{stored}
-use Rattle.field.specs.Definitions.{scalar}
-use Rattle.records.specs.Parameters.{quorum, batch}
-use Rattle.records.specs.Bytes.{word}
-use Rattle.records.specs.Tags.{Tag, SU, DE, VE, CH, RE, unknown, tagOf}
-use Rattle.refusals.specs.Refusals.{setupRefusal, challengesRefusal}
+use Rattle.records.specs.Parameters.{quorum}
+use Rattle.records.specs.Tags.{Tag, SU, DE, VE, CH, CS, RE, unknown, tagOf}
+use Rattle.refusals.specs.Refusals.{setupRefusal, challengesRefusal, shiftedRefusal}
 use Rattle.dealing.specs.Definitions.{setupOf, dealingNumber, withDealing}
 use Rattle.complaint.specs.Definitions.{complaintNumber, withComplaint, complaintStage}
-use Rattle.response.specs.Definitions.{responseNumber, withResponse, signaturesOf}
+use Rattle.response.specs.Definitions.{withChallenges, withShifted, responseNumber, withResponse, signaturesOf}
 use Rattle.run.specs.declared.Run.{Run}
 use Rattle.run.specs.declared.Reply.{Reply}
 use Rattle.run.specs.declared.Handler.{Handler}
-use Rattle.run.specs.declared.Handler.the-variants.{TakeSetup, TakeDealing, TakeComplaint, TakeChallenges, TakeResponse, Refuse}
+use Rattle.run.specs.declared.Handler.the-variants.{TakeSetup, TakeDealing, TakeComplaint, TakeChallenges, TakeShifted, TakeResponse, Refuse}
 use Rattle.run.specs.Runs.{setDealings, setComplaints, setChallenges, setResponses, setSignatures, begun, fresh, stageOf}
 
 -- ---- SU, at stage 0
@@ -40,8 +37,12 @@ afterComplaint r s =
 -- ---- CH, at stage 3: then 4
 
 unfoldable pub afterChallenges : Run → List ℕ → Run
-afterChallenges r s =
-    setChallenges r 4 (stored (r .challenges) 0 (r .setup .a * batch (r .setup .n) (r .setup .t)) (λ x. scalar (word s 4 x)))
+afterChallenges r s = setChallenges r 4 (withChallenges (r .setup) (r .challenges) s)
+
+-- ---- CS, at stage 3 like CH: then 4
+
+unfoldable pub afterShifted : Run → List ℕ → Run
+afterShifted r s = setChallenges r 4 (withShifted (r .setup) (r .challenges) s)
 
 -- ---- RE, at stage 4: after need accepted, stage 5
 
@@ -49,9 +50,9 @@ afterChallenges r s =
 unfoldable pub withRow : Run → List ℕ → Run
 withRow r s = setResponses r 4 (withResponse (r .setup) (r .responses) s)
 
--- done: every φ is worked out
+-- done: every φ is worked out, and shifted
 unfoldable pub finished : Run → Run
-finished r = setSignatures r 5 (signaturesOf (r .setup) (r .responses) (r .signatures))
+finished r = setSignatures r 5 (signaturesOf (r .setup) (r .challenges .shift) (r .responses) (r .signatures))
 
 unfoldable pub afterResponse : Run → List ℕ → Run
 afterResponse r s =
@@ -66,6 +67,7 @@ takenAt SU = 0
 takenAt DE = 1
 takenAt VE = 2
 takenAt CH = 3
+takenAt CS = 3
 takenAt RE = 4
 takenAt unknown = 7
 
@@ -79,6 +81,7 @@ handlerAt SU stage = atStage SU stage TakeSetup
 handlerAt DE stage = atStage DE stage TakeDealing
 handlerAt VE stage = atStage VE stage TakeComplaint
 handlerAt CH stage = atStage CH stage TakeChallenges
+handlerAt CS stage = atStage CS stage TakeShifted
 handlerAt RE stage = atStage RE stage TakeResponse
 handlerAt unknown stage = Refuse 1
 
@@ -96,6 +99,7 @@ handled TakeSetup r s = answered r (setupRefusal s) (afterSetup s)
 handled TakeDealing r s = answered r (dealingNumber (r .setup) (r .dealings) s) (afterDealing r s)
 handled TakeComplaint r s = answered r (complaintNumber (r .setup) (r .dealings) (r .complaints) s) (afterComplaint r s)
 handled TakeChallenges r s = answered r (challengesRefusal (r .setup .n) (r .setup .t) (r .setup .a) s) (afterChallenges r s)
+handled TakeShifted r s = answered r (shiftedRefusal (r .setup .n) (r .setup .t) (r .setup .a) s) (afterShifted r s)
 handled TakeResponse r s = answered r (responseNumber (r .setup) (r .dealings) (r .complaints) (r .challenges) (r .responses) s) (afterResponse r s)
 handled (Refuse k) r s = refused r k
 
@@ -110,6 +114,7 @@ refusalOf TakeSetup = 0
 refusalOf TakeDealing = 0
 refusalOf TakeComplaint = 0
 refusalOf TakeChallenges = 0
+refusalOf TakeShifted = 0
 refusalOf TakeResponse = 0
 
 unfoldable pub untaken : Run → List ℕ → ℕ

@@ -1,15 +1,15 @@
 // The run: what it keeps, and what a record does to it.
 ghost use mathlib.Core.Path.{_≡_};
 ghost use mathlib.Core.Bool.{true};
-ghost use Prim.Native.Nat.{_+_, _*_};
+ghost use Prim.Native.Nat.{_+_};
 ghost use Rattle.records.specs.Parameters.{inBounds};
 ghost use Rattle.records.specs.Tags.{decoded};
-ghost use Rattle.refusals.specs.Refusals.{setupRefusal, challengesRefusal};
+ghost use Rattle.refusals.specs.Refusals.{setupRefusal, challengesRefusal, shiftedRefusal};
 ghost use Rattle.dealing.specs.Definitions.{dealingNumber};
 ghost use Rattle.complaint.specs.Definitions.{complaintNumber};
 ghost use Rattle.response.specs.Definitions.{responseNumber};
-ghost use Rattle.run.specs.Runs.{fresh, begun, wellFormed, stageOf};
-ghost use Rattle.run.specs.Steps.{refused, answered, afterSetup, afterDealing, afterComplaint, afterChallenges, finished, afterResponse, handlerAt, stepOf, untaken};
+ghost use Rattle.run.specs.Runs.{setChallenges, fresh, begun, wellFormed, stageOf};
+ghost use Rattle.run.specs.Steps.{refused, answered, afterSetup, afterDealing, afterComplaint, afterChallenges, afterShifted, finished, afterResponse, handlerAt, stepOf, untaken};
 use complaint::Complaints;
 use dealing::Dealings;
 use dealing::Setup;
@@ -18,15 +18,16 @@ use field::Scalar;
 use records::CELLS;
 use records::PARTIES;
 use records::PLACES;
+use response::Challenges;
 use response::Responses;
 
-// The run. The challenges and, at stage 5, the signatures stand u outer, k inner.
+// The run. At stage 5 the signatures, each a shifted φ, stand u outer, k inner.
 pub struct Run {
     pub stage: u8,
     pub setup: Setup,
     pub dealings: Dealings,
     pub complaints: Complaints,
-    pub challenges: [Scalar; CELLS],
+    pub challenges: Challenges,
     pub responses: Responses,
     pub signatures: [Scalar; CELLS],
 }
@@ -43,6 +44,7 @@ pub enum Handler {
     TakeDealing,
     TakeComplaint,
     TakeChallenges,
+    TakeShifted,
     TakeResponse,
     Refuse(u8),
 }
@@ -72,6 +74,10 @@ fn taken_by(tag: u8, stage: u8) -> Handler
             4 => Handler::TakeResponse,
             _ => Handler::Refuse(11),
         },
+        6 => match stage {
+            3 => Handler::TakeShifted,
+            _ => Handler::Refuse(11),
+        },
         _ => Handler::Refuse(1),
     }
 }
@@ -95,7 +101,10 @@ impl Run {
                 holders: 0,
                 masks: [0; PARTIES],
             },
-            challenges: [Scalar::ZERO; CELLS],
+            challenges: Challenges {
+                shift: Scalar::ZERO,
+                numbers: [Scalar::ZERO; CELLS],
+            },
             responses: Responses {
                 count: 0,
                 responders: 0,
@@ -226,27 +235,43 @@ impl Run {
         next.answer(0)
     }
 
-    fn take_challenges(self, bytes: &[u8]) -> Reply
-        requires { ⌜ wellFormed self ≡ true ⌝ }
-        ensures { λ r. ⌜ r ≡ answered self (challengesRefusal (self .setup .n) (self .setup .t) (self .setup .a) (now (bytes .entry))) (afterChallenges self (now (bytes .entry))) ⌝ }
+    // What a CH or CS gets that was found to be refused or not: at stage 4 with its challenges, or as it was.
+    fn challenged(self, challenges: Challenges, found: u8) -> Reply
+        ensures { λ r. ⌜ r ≡ answered self found (setChallenges self 4 challenges) ⌝ }
     {
-        let number = refusals::challenges_refusal(self.setup.n, self.setup.t, self.setup.a, bytes);
-        if number != 0 {
-            return self.answer(number);
-        }
-        let old = self.challenges;
-        let count = self.setup.a as u16 * records::batch(self.setup.n, self.setup.t) as u16;
-        let challenges = response::load_challenges(old, bytes, count);
         let mut next = self;
         next.stage = 4;
         next.challenges = challenges;
+        if found != 0 {
+            return self.answer(found);
+        }
         Reply {
             run: next,
             number: 0,
         }
     }
 
-    // Done: every φ is worked out.
+    fn take_challenges(self, bytes: &[u8]) -> Reply
+        ensures { λ r. ⌜ r ≡ answered self (challengesRefusal (self .setup .n) (self .setup .t) (self .setup .a) (now (bytes .entry))) (afterChallenges self (now (bytes .entry))) ⌝ }
+    {
+        let setup = self.setup;
+        let old = self.challenges;
+        let number = refusals::challenges_refusal(setup.n, setup.t, setup.a, bytes);
+        let challenges = old.with(setup, bytes);
+        self.challenged(challenges, number)
+    }
+
+    fn take_shifted(self, bytes: &[u8]) -> Reply
+        ensures { λ r. ⌜ r ≡ answered self (shiftedRefusal (self .setup .n) (self .setup .t) (self .setup .a) (now (bytes .entry))) (afterShifted self (now (bytes .entry))) ⌝ }
+    {
+        let setup = self.setup;
+        let old = self.challenges;
+        let number = refusals::shifted_refusal(setup.n, setup.t, setup.a, bytes);
+        let challenges = old.with_shifted(setup, bytes);
+        self.challenged(challenges, number)
+    }
+
+    // Done: every φ is worked out, and shifted.
     fn finish(self) -> Run
         requires { ⌜ inBounds (self .setup .n) (self .setup .t) (self .setup .a) ≡ true ⌝ }
         ensures { λ r. ⌜ r ≡ finished self ⌝ }
@@ -254,7 +279,8 @@ impl Run {
         let setup = self.setup;
         let responses = self.responses;
         let list = self.signatures;
-        let signatures = responses.signatures(setup, list);
+        let shift = self.challenges.shift;
+        let signatures = responses.signatures(setup, shift, list);
         let mut next = self;
         next.stage = 5;
         next.signatures = signatures;
@@ -301,6 +327,7 @@ impl Run {
             Handler::TakeDealing => 0,
             Handler::TakeComplaint => 0,
             Handler::TakeChallenges => 0,
+            Handler::TakeShifted => 0,
             Handler::TakeResponse => 0,
             Handler::Refuse(number) => number,
         }
@@ -316,6 +343,7 @@ impl Run {
             Handler::TakeDealing => self.take_dealing(bytes),
             Handler::TakeComplaint => self.take_complaint(bytes),
             Handler::TakeChallenges => self.take_challenges(bytes),
+            Handler::TakeShifted => self.take_shifted(bytes),
             Handler::TakeResponse => self.take_response(bytes),
             Handler::Refuse(number) => self.answer(number),
         }

@@ -49,12 +49,17 @@ returns-6 c = rw (le-ltb _ _ (c .before .before .before .if1 .left), ← c .befo
 
 returns-7 : tie.Need-returns-7
 unfolding tagOf
-returns-7 c =
+returns-7 c = rw (le-ltb _ _ (c .before .before .before .if1 .left), ← c .before .before .byte .ensures, ← c .before .byte2 .ensures, c .match .keys6)
+
+returns-8 : tie.Need-returns-8
+unfolding tagOf
+returns-8 c =
     let r = c .match .rest in
     simp (
       le-ltb _ _ (c .before .before .before .if1 .left),
       ← c .before .before .byte .ensures,
       ← c .before .byte2 .ensures,
+      ne-eqb _ _ (r .0 .0 .0 .0 .0 .1),
       ne-eqb _ _ (r .0 .0 .0 .0 .1),
       ne-eqb _ _ (r .0 .0 .0 .1),
       ne-eqb _ _ (r .0 .0 .1),
@@ -78,4 +83,5 @@ tag-spec =
     returns-4
     returns-5
     returns-6
-    returns-7)
+    returns-7
+    returns-8)

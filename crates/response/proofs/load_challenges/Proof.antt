@@ -12,10 +12,10 @@ use Rattle.response.proofs.load_challenges.Statement.{statement}
 use Rattle.response.proofs.load_challenges.Tie as tie
 
 abbrev Inv-loop : tie.InvT-loop
-Inv-loop bytes count next₀ x₀ next x = Loading cells next₀ 0 count (λ k. scalar (word bytes 4 k)) x next
+Inv-loop bytes from count next₀ x₀ next x = Loading cells next₀ 0 count (λ k. scalar (word bytes from k)) x next
 
 abbrev μ-loop : tie.MeasureT-loop
-μ-loop bytes count next₀ x₀ next x = count - x
+μ-loop bytes from count next₀ x₀ next x = count - x
 
 loop-holds : tie.Need-loop-holds Inv-loop μ-loop
 loop-holds c = loading-none (search needs)

@@ -26,26 +26,26 @@ use Rattle.response.proofs.row_passes.Statement.{statement}
 use Rattle.response.proofs.row_passes.Tie as tie
 
 abbrev Inv-loop : tie.InvT-loop
-Inv-loop setup challenges bytes qual quorum key at-slots at-points powers passed u values image₀ v₀ u-end image v =
+Inv-loop setup bytes numbers qual quorum key at-slots at-points powers passed u values image₀ v₀ u-end image v =
     (v ≤ quorum) × (image ≡ productOf (first v at-points) values)
 
 abbrev μ-loop : tie.MeasureT-loop
-μ-loop setup challenges bytes qual quorum key at-slots at-points powers passed u values image₀ v₀ u-end image v =
+μ-loop setup bytes numbers qual quorum key at-slots at-points powers passed u values image₀ v₀ u-end image v =
     quorum - v
 
 abbrev Inv-row : tie.InvT-row
-Inv-row setup challenges bytes qual quorum key at-slots at-points powers₀ passed₀ u₀ u-end powers passed u =
+Inv-row setup bytes numbers qual quorum key at-slots at-points powers₀ passed₀ u₀ u-end powers passed u =
     (u ≤ u-end) × (u-end ≤ 30) × (quorum ≤ 30) × (passed ≡ true)
     × (powers ≡ powersAt (setup .n) powers₀ u)
-    × (allTo u (fits setup powers₀ challenges qual quorum key at-slots at-points bytes) ≡ true)
+    × (allTo u (fits setup powers₀ numbers qual quorum key at-slots at-points bytes) ≡ true)
 
 abbrev μ-row : tie.MeasureT-row
-μ-row setup challenges bytes qual quorum key at-slots at-points powers₀ passed₀ u₀ u-end powers passed u = u-end - u
+μ-row setup bytes numbers qual quorum key at-slots at-points powers₀ passed₀ u₀ u-end powers passed u = u-end - u
 
 -- ---- what is known before the rows
 
 abbrev start : tie.After-batch Inv-loop μ-loop Inv-row μ-row → tie.Start Inv-loop μ-loop Inv-row μ-row
-start b = b .before .before .before .before .before .before .before .before .before .before .before .before
+start b = b .before .before .before .before .before .before .before .before .before .before .before .before .before
 
 abbrev points : tie.After-batch Inv-loop μ-loop Inv-row μ-row → tie.After-committed-points Inv-loop μ-loop Inv-row μ-row
 points b = b .before .before .before
@@ -57,7 +57,7 @@ fits-of b =
     let key = w .before .before in
     let q = key .before .before .before in
     let a = start b .args in
-    fits (a .setup) (a .dealings .commitments) (a .challenges) (q .before .unblamed .result) (q .quorum .result) (key .key-at .result) (w .weights .result) (b .before .before .weights2 .result) (a .bytes .now)
+    fits (a .setup) (a .dealings .commitments) (a .challenges .numbers) (q .before .unblamed .result) (q .quorum .result) (key .key-at .result) (w .weights .result) (b .before .before .weights2 .result) (a .bytes .now)
 
 -- it is that of the definition
 tested : (b : tie.After-batch Inv-loop μ-loop Inv-row μ-row)
@@ -119,7 +119,7 @@ quorum-requires c κs = search needs
 
 cast-quorum : tie.Need-cast-quorum Inv-loop μ-loop Inv-row μ-row
 cast-quorum c =
-    omega (arith, quorum-max (bounds-of _ _ _ (c .before .before .before .pre)))
+    omega (arith, quorum-max (bounds-of _ _ _ (c .before .before .before .before .pre)))
 
 byte-requires : tie.Need-byte-requires Inv-loop μ-loop Inv-row μ-row
 byte-requires c κs = search needs

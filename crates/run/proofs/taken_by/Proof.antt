@@ -46,10 +46,18 @@ unfolding handlerAt atStage takenAt decoded
 returns-10 c = rw (c .before .match .keys5, ne-eqb _ _ (c .match6 .rest .1))
 
 returns-11 : tie.Need-returns-11
+unfolding handlerAt atStage takenAt decoded
+returns-11 c = rw (c .before .match .keys6, c .match7 .keys1)
+
+returns-12 : tie.Need-returns-12
+unfolding handlerAt atStage takenAt decoded
+returns-12 c = rw (c .before .match .keys6, ne-eqb _ _ (c .match7 .rest .1))
+
+returns-13 : tie.Need-returns-13
 unfolding handlerAt decoded
-returns-11 c =
+returns-13 c =
     let none = c .match .rest in
-    rw (ne-eqb _ _ (none .0 .0 .0 .0 .1), ne-eqb _ _ (none .0 .0 .0 .1), ne-eqb _ _ (none .0 .0 .1), ne-eqb _ _ (none .0 .1), ne-eqb _ _ (none .1))
+    rw (ne-eqb _ _ (none .0 .0 .0 .0 .0 .1), ne-eqb _ _ (none .0 .0 .0 .0 .1), ne-eqb _ _ (none .0 .0 .0 .1), ne-eqb _ _ (none .0 .0 .1), ne-eqb _ _ (none .0 .1), ne-eqb _ _ (none .1))
 
 pub taken-by-spec : {M : Type 1} → statement M
 taken-by-spec =
@@ -65,4 +73,6 @@ taken-by-spec =
     returns-8
     returns-9
     returns-10
-    returns-11)
+    returns-11
+    returns-12
+    returns-13)

@@ -6,27 +6,28 @@ use mathlib.Core.Path.{_≡_, refl, ap, _∙_}
 use Prim.Native.Nat.{ℕ, _+_, _*_, _-_, _/_, _%_, _≤_, _<_}
 use Rattle.lists.specs.Stores.{stored}
 use Rattle.field.specs.declared.Scalar.{Scalar}
+use Rattle.field.specs.Definitions.{plus}
 use Rattle.interpolation.specs.Rows.{basisOf}
 use Rattle.records.specs.Parameters.{batch}
 use Rattle.records.specs.RecordLaws.{bounds-of, key-max, batch-max, cells-max}
 use Rattle.arrays.specs.Arrays.{memberPoints}
 use Rattle.dealing.specs.declared.Setup.{Setup}
 use Rattle.response.specs.declared.Responses.{Responses}
-use Rattle.response.specs.Definitions.{phiOf, signaturesOf}
+use Rattle.response.specs.Definitions.{shiftedPhiOf, signaturesOf}
 use Rattle.lists.specs.LoadLaws.{load-in, loaded}
 use Rattle.response.proofs.Responses.signatures.Statement.{statement}
 use Rattle.response.proofs.Responses.signatures.Tie as tie
 
--- φ(u,k) at its place, u outer
-abbrev cell : Setup → Responses → ℕ → Scalar
-cell setup p x = phiOf (setup .n) p (x / setup .a + 1) (x % setup .a + 1)
+-- φ(u,k) + δ at its place, u outer
+abbrev cell : Setup → Scalar → Responses → ℕ → Scalar
+cell setup shift p x = shiftedPhiOf (setup .n) shift p (x / setup .a + 1) (x % setup .a + 1)
 
 abbrev Inv-loop : tie.InvT-loop
-Inv-loop self setup a basis signatures₀ count x₀ signatures x =
-    (basis ≡ basisOf (memberPoints (setup .n) (self .responders))) × (x ≤ count) × (0 < a) × (a ≤ 31) × (count ≤ 30 * a) × (count ≤ 512) × (signatures ≡ stored signatures₀ 0 x (cell setup self))
+Inv-loop self setup shift a basis signatures₀ count x₀ signatures x =
+    (basis ≡ basisOf (memberPoints (setup .n) (self .responders))) × (x ≤ count) × (0 < a) × (a ≤ 31) × (count ≤ 30 * a) × (count ≤ 512) × (signatures ≡ stored signatures₀ 0 x (cell setup shift self))
 
 abbrev μ-loop : tie.MeasureT-loop
-μ-loop self setup a basis signatures₀ count x₀ signatures x = count - x
+μ-loop self setup shift a basis signatures₀ count x₀ signatures x = count - x
 
 -- u is at most 30
 few : (c : tie.In-loop Inv-loop μ-loop) → c .before .loop .x / c .before .before .before .before .before .args .setup .a < 30
@@ -88,6 +89,9 @@ cast-k-2 c = omega (arith, mod-lt (c .before .loop .x) (c .before .loop .inv .2)
 interpolated-requires : tie.Need-interpolated-requires Inv-loop μ-loop
 interpolated-requires c κs = c .before .loop .inv .0
 
+add-requires : tie.Need-add-requires Inv-loop μ-loop
+add-requires c κs = search needs
+
 cast-signatures : tie.Need-cast-signatures Inv-loop μ-loop
 cast-signatures c = search needs
 
@@ -104,10 +108,12 @@ loop-less : tie.Need-loop-less Inv-loop μ-loop
 loop-less c = search needs
 
 loop-again : tie.Need-loop-again Inv-loop μ-loop
+unfolding shiftedPhiOf
 loop-again c =
-    let l = c .before .before .loop in
-    let a = c .before .before .before .before .before .before .args in
-    (l .inv .0, omega arith, l .inv .2, l .inv .3, l .inv .4, l .inv .5, load-in (a .list) 0 (l .x) (cell (a .setup) (a .self)) (l .inv .6) (omega arith) (c .interpolated .ensures) refl)
+    let l = c .before .before .before .loop in
+    let a = c .before .before .before .before .before .before .before .args in
+    let sum = c .add .ensures ∙ ap (λ (x : Scalar). plus x (a .shift)) (c .before .interpolated .ensures) in
+    (l .inv .0, omega arith, l .inv .2, l .inv .3, l .inv .4, l .inv .5, load-in (a .list) 0 (l .x) (cell (a .setup) (a .shift) (a .self)) (l .inv .6) (omega arith) sum refl)
 
 returns : tie.Need-returns Inv-loop μ-loop
 unfolding signaturesOf
@@ -115,7 +121,7 @@ returns c =
     let b = c .before .before in
     let a = b .before .before .before .args in
     let end : c .before .loop .x ≡ a .setup .a * batch (a .setup .n) (a .setup .t) = rw (← b .batch .ensures) (omega arith) in
-    loaded (a .list) 0 _ (cell (a .setup) (a .self)) (c .before .loop .inv .6) end
+    loaded (a .list) 0 _ (cell (a .setup) (a .shift) (a .self)) (c .before .loop .inv .6) end
 
 pub signatures-spec : {M : Type 1} → statement M
 signatures-spec =
@@ -139,6 +145,7 @@ signatures-spec =
     add-k
     cast-k-2
     interpolated-requires
+    add-requires
     cast-signatures
     mul-signatures
     array-set-from-signatures

@@ -3,13 +3,13 @@ use mathlib.Core.Path.{refl}
 use Rattle.lists.specs.Stores.{filled}
 use Rattle.dealing.specs.Definitions.{noDealings}
 use Rattle.complaint.specs.Definitions.{noComplaints}
-use Rattle.response.specs.Definitions.{noResponses}
+use Rattle.response.specs.Definitions.{noChallenges, noResponses}
 use Rattle.run.specs.Runs.{noScalars, begun}
 use Rattle.run.proofs.Run.begun.Statement.{statement}
 use Rattle.run.proofs.Run.begun.Tie as tie
 
 returns : tie.Need-returns
-unfolding begun noDealings noComplaints noResponses noScalars filled
+unfolding begun noDealings noComplaints noChallenges noResponses noScalars filled
 returns c = refl
 
 pub begun-spec : {M : Type 1} → statement M

@@ -51,13 +51,19 @@ enum-told-4 : tie.Need-enum-told-4
 enum-told-4 c = search needs
 
 take-challenges-requires : tie.Need-take-challenges-requires
-take-challenges-requires c κs = formed (c .before .before) (c .enum-told4 .given .1) tt
+take-challenges-requires c κs = search needs
 
 enum-told-5 : tie.Need-enum-told-5
 enum-told-5 c = search needs
 
+take-shifted-requires : tie.Need-take-shifted-requires
+take-shifted-requires c κs = search needs
+
+enum-told-6 : tie.Need-enum-told-6
+enum-told-6 c = search needs
+
 take-response-requires : tie.Need-take-response-requires
-take-response-requires c κs = formed (c .before .before) (c .enum-told5 .given .1) tt
+take-response-requires c κs = formed (c .before .before) (c .enum-told6 .given .1) tt
 
 enum-known-handler : tie.Need-enum-known-handler
 enum-known-handler c = search needs
@@ -83,11 +89,15 @@ returns-4 c = reply (c .before .before .before) (c .before .enum-told4 .given .1
 
 returns-5 : tie.Need-returns-5
 unfolding handled
-returns-5 c = reply (c .before .before .before) (c .before .enum-told5 .given .1) (c .take-response .ensures)
+returns-5 c = reply (c .before .before .before) (c .before .enum-told5 .given .1) (c .take-shifted .ensures)
 
 returns-6 : tie.Need-returns-6
 unfolding handled
-returns-6 c = reply (c .before .before .before .before) (c .before .before .handler .given .1) (c .answer .ensures)
+returns-6 c = reply (c .before .before .before) (c .before .enum-told6 .given .1) (c .take-response .ensures)
+
+returns-7 : tie.Need-returns-7
+unfolding handled
+returns-7 c = reply (c .before .before .before .before) (c .before .before .handler .given .1) (c .answer .ensures)
 
 pub step-spec : {M : Type 1} → statement M
 step-spec =
@@ -105,6 +115,8 @@ step-spec =
     enum-told-4
     take-challenges-requires
     enum-told-5
+    take-shifted-requires
+    enum-told-6
     take-response-requires
     enum-known-handler
     answer-requires
@@ -113,4 +125,5 @@ step-spec =
     returns-3
     returns-4
     returns-5
-    returns-6)
+    returns-6
+    returns-7)

@@ -35,6 +35,9 @@ enum-told-4 c = search needs
 enum-told-5 : tie.Need-enum-told-5
 enum-told-5 c = search needs
 
+enum-told-6 : tie.Need-enum-told-6
+enum-told-6 c = search needs
+
 enum-known-handler : tie.Need-enum-known-handler
 enum-known-handler c = search needs
 
@@ -60,7 +63,11 @@ returns-5 c = answer (c .before .before) (c .enum-told5 .given .1)
 
 returns-6 : tie.Need-returns-6
 unfolding refusalOf
-returns-6 c = answer (c .before .before .before) (c .before .handler .given .1)
+returns-6 c = answer (c .before .before) (c .enum-told6 .given .1)
+
+returns-7 : tie.Need-returns-7
+unfolding refusalOf
+returns-7 c = answer (c .before .before .before) (c .before .handler .given .1)
 
 pub untaken-spec : {M : Type 1} → statement M
 untaken-spec =
@@ -74,10 +81,12 @@ untaken-spec =
     enum-told-3
     enum-told-4
     enum-told-5
+    enum-told-6
     enum-known-handler
     returns
     returns-2
     returns-3
     returns-4
     returns-5
-    returns-6)
+    returns-6
+    returns-7)

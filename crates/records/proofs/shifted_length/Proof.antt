@@ -1,0 +1,27 @@
+-- `shifted_length` meets its contract: CH with one number more. Assumes nothing.
+use borrow.Author.Needs.{needs}
+use native.Mathlib.Omega.{arith}
+use mathlib.Core.Path.{_≡_}
+use Prim.Native.Nat.{_<_}
+use Rattle.records.specs.Parameters.{batch}
+use Rattle.records.specs.Tags.{challengesLength, shiftedLength}
+use Rattle.records.specs.RecordLaws.{byte-product}
+use Rattle.records.proofs.shifted_length.Statement.{statement}
+use Rattle.records.proofs.shifted_length.Tie as tie
+
+challenges-length-requires : tie.Need-challenges-length-requires
+challenges-length-requires c κs = search needs
+
+add-result : tie.Need-add-result
+unfolding challengesLength batch
+add-result c =
+    let a = c .before .args in
+    let few : batch (a .n) (a .t) < 256 = omega arith in
+    omega (arith, c .challenges-length .ensures, byte-product (a .a) (batch (a .n) (a .t)) (omega arith) few)
+
+returns : tie.Need-returns
+unfolding challengesLength shiftedLength
+returns c = omega (arith, c .challenges-length .ensures)
+
+pub shifted-length-spec : {M : Type 1} → statement M
+shifted-length-spec = tie.close (tie.spec challenges-length-requires add-result returns)

@@ -1,0 +1,15 @@
+-- `Challenges::with` meets its contract. Assumes nothing.
+use borrow.Author.Needs.{needs}
+use Rattle.response.specs.Definitions.{withChallenges}
+use Rattle.response.proofs.Challenges.with.Statement.{statement}
+use Rattle.response.proofs.Challenges.with.Tie as tie
+
+loaded-requires : tie.Need-loaded-requires
+loaded-requires c κs = search needs
+
+returns : tie.Need-returns
+unfolding withChallenges
+returns c = rw (c .loaded .ensures)
+
+pub with-spec : {M : Type 1} → statement M
+with-spec = tie.close (tie.spec loaded-requires returns)
