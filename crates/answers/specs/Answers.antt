@@ -1,4 +1,4 @@
--- What a run answers when it is asked for its sets, for R(u,k) and for φ(u,k), and document 01's values for each answer.
+-- What a run answers when it is asked for its sets, for R(u,k) and for φ(u,k), both shifted, and document 01's values for each answer.
 use Prim.Native.Nat.{ℕ}
 use mathlib.Core.Bool.{Bool, true, false, _&&_}
 use mathlib.Core.List.{List, [], _∷_}
@@ -7,7 +7,7 @@ use Rattle.lists.specs.Tests.{pick}
 use Rattle.field.specs.declared.Scalar.{Scalar}
 use Rattle.field.specs.declared.Element.{Element}
 use Rattle.records.specs.Parameters.{batch}
-use Rattle.protocol.specs.Transcript.{nonce}
+use Rattle.protocol.specs.Transcript.{shiftedNonce}
 use Rattle.run.specs.declared.Run.{Run}
 use Rattle.answers.specs.declared.Nonce.{Nonce}
 use Rattle.answers.specs.declared.Nonce.the-variants as N
@@ -45,11 +45,11 @@ setsOf r = pick (leb 3 (stageOf r)) (keptSets r) noSets
 unfoldable pub inBatch : Run → ℕ → ℕ → Bool
 inBatch r u k = (leb 1 u && leb u (batch (r .setup .n) (r .setup .t))) && (leb 1 k && leb k (r .setup .a))
 
--- R(u,k), once QUAL is fixed and signatures can come of it: at stages 3, 4 and 5
+-- R(u,k) × 4^δ, once QUAL is fixed and signatures can come of it: at stages 3, 4 and 5
 unfoldable pub nonceOf : Run → ℕ → ℕ → Nonce
-nonceOf r u k = pick ((leb 3 (stageOf r) && leb (stageOf r) 5) && inBatch r u k) (N.Is (nonce (transcriptOf r) u k)) N.None
+nonceOf r u k = pick ((leb 3 (stageOf r) && leb (stageOf r) 5) && inBatch r u k) (N.Is (shiftedNonce (transcriptOf r) u k)) N.None
 
--- φ(u,k), at stage 5
+-- φ(u,k) + δ, which the run keeps, at stage 5
 unfoldable pub phiAnswer : Run → ℕ → ℕ → Signature
 phiAnswer r u k = pick (eqb (stageOf r) 5 && inBatch r u k) (S.Is (kept r u k)) S.None
 

@@ -1,4 +1,4 @@
-// What a run answers when it is asked: the sets HOLD, QUAL and BAD, R(u,k) and φ(u,k).
+// What a run answers when it is asked: the sets HOLD, QUAL and BAD, and R(u,k) and φ(u,k), both shifted.
 ghost use mathlib.Core.Path.{_≡_};
 ghost use Rattle.answers.specs.Answers.{unblamedOf, setsOf, inBatch, nonceOf, phiAnswer};
 use field::Element;
@@ -13,13 +13,13 @@ pub struct Sets {
     pub bad: u64,
 }
 
-// R(u,k), or none where the run has none.
+// The shifted R(u,k), or none where the run has none.
 pub enum Nonce {
     Is(Element),
     None,
 }
 
-// φ(u,k), or none where the run has none.
+// The shifted φ(u,k), or none where the run has none.
 pub enum Signature {
     Is(Scalar),
     None,
@@ -70,7 +70,7 @@ fn in_batch(run: Run, u: u8, k: u8) -> bool
     k <= run.setup.a
 }
 
-// R(u,k), at stages 3, 4 and 5.
+// R(u,k) × 4^δ, at stages 3, 4 and 5.
 pub fn nonce_at(run: Run, u: u8, k: u8) -> Nonce
     ensures { λ r. ⌜ r ≡ nonceOf run u k ⌝ }
 {
@@ -88,10 +88,12 @@ pub fn nonce_at(run: Run, u: u8, k: u8) -> Nonce
     let dealings = run.dealings;
     let complaints = run.complaints;
     let x = interpolation::point(1, k);
-    Nonce::Is(response::combined_at(setup, dealings, complaints, u, x))
+    let nonce = response::combined_at(setup, dealings, complaints, u, x);
+    let shift = run.challenges.shift;
+    Nonce::Is(nonce.mul(Element::GENERATOR.pow(shift)))
 }
 
-// φ(u,k), at stage 5.
+// φ(u,k) + δ, at stage 5.
 pub fn signature_at(run: Run, u: u8, k: u8) -> Signature
     ensures { λ r. ⌜ r ≡ phiAnswer run u k ⌝ }
 {

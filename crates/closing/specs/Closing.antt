@@ -7,7 +7,7 @@ use Rattle.field.specs.declared.Scalar.{Scalar}
 use Rattle.field.specs.declared.Element.{Element}
 use Rattle.records.specs.Parameters.{cells, batch}
 use Rattle.text.specs.Lines.{line, setLine}
-use Rattle.protocol.specs.Transcript.{nonce}
+use Rattle.protocol.specs.Transcript.{shiftedNonce}
 use Rattle.run.specs.declared.Run.{Run}
 use Rattle.run.specs.Runs.{stageOf, transcriptOf, kept}
 use Rattle.answers.specs.Answers.{setsOf}
@@ -42,9 +42,9 @@ mostClosing = 26000
 abbrev pub sigLine : ℕ → ℕ → Element → Scalar → List ℕ
 sigLine u k v x = line sigWord (u ∷ k ∷ v .0 ∷ x .0 ∷ [])
 
--- with R(u,k) and φ(u,k) of a run
+-- with R(u,k) and φ(u,k) of a run, both shifted
 unfoldable pub signatureLine : Run → ℕ → ℕ → List ℕ
-signatureLine r u k = sigLine u k (nonce (transcriptOf r) u k) (kept r u k)
+signatureLine r u k = sigLine u k (shiftedNonce (transcriptOf r) u k) (kept r u k)
 
 -- the signatures numbered below m, u outer
 unfoldable pub signatureLines : Run → ℕ → List ℕ

@@ -1,4 +1,4 @@
--- The signature lines of one u, which a page has one after the other; and R(u,k) as the code finds it. Assumes nothing.
+-- The signature lines of one u, which a page has one after the other; and R(u,k), shifted, as the code finds it. Assumes nothing.
 use mathlib.Core.Path.{_≡_, sym, ap, ap₂, _∙_}
 use mathlib.Core.List.{List, [], _++_, append-nil, append-assoc}
 use Prim.Native.Nat.{ℕ, zero, suc, _+_, _*_, _-_, _/_, _%_, _≤_, _<_}
@@ -10,15 +10,16 @@ use lib.ListN.{length, getD, length-append}
 use Rattle.sets.specs.Masks.{has}
 use Rattle.field.specs.declared.Scalar.{Scalar}
 use Rattle.field.specs.declared.Element.{Element}
-use Rattle.field.specs.Definitions.{scalar}
+use Rattle.field.specs.Definitions.{scalar, generator, product, raise}
 use Rattle.interpolation.specs.Definitions.{slot, committedPoint}
 use Rattle.interpolation.specs.Rows.{listed, weightsOf, productOf}
 use Rattle.records.specs.Parameters.{cells, quorum, batch}
 use Rattle.records.specs.RecordLaws.{Bounds, cells-max}
 use Rattle.text.specs.LineLaws.{line-max}
-use Rattle.protocol.specs.Transcript.{nonce}
+use Rattle.protocol.specs.Transcript.{nonce, shiftedNonce}
 use Rattle.arrays.specs.Arrays.{cell, commitmentIn, elements}
 use Rattle.combination.specs.Combination.{combinedValue}
+use Rattle.response.specs.Definitions.{transcript}
 use Rattle.response.specs.ResponseLaws.{combined-is}
 use Rattle.run.specs.declared.Run.{Run}
 use Rattle.run.specs.Runs.{transcriptOf, kept}
@@ -31,7 +32,7 @@ rowLines r u zero = []
 rowLines r u (suc k) = rowLines r u k ++ signatureLine r u (k + 1)
 
 -- a line from R and φ
-pub line-is : (r : Run) (u k : ℕ) {e : Element} {f : Scalar} → e ≡ nonce (transcriptOf r) u k → f ≡ kept r u k → sigLine u k e f ≡ signatureLine r u k
+pub line-is : (r : Run) (u k : ℕ) {e : Element} {f : Scalar} → e ≡ shiftedNonce (transcriptOf r) u k → f ≡ kept r u k → sigLine u k e f ≡ signatureLine r u k
 unfolding signatureLine
 line-is r u k p q = ap₂ (sigLine u k) p q
 
@@ -80,13 +81,18 @@ row-max r u (suc k) = omega (arith, length-append (rowLines r u k) (signatureLin
 
 -- ---- R and φ
 
--- R(u,k) from the committed values of the dealers that nobody blames, combined for u
+-- R(u,k) before the shift from the committed values of the dealers that nobody blames, combined for u
 pub nonce-is : (r : Run) (u k : ℕ) → Bounds (r .setup .n) (r .setup .t) (r .setup .a)
     → productOf (weightsOf (listed (quorum (r .setup .t) (r .setup .a)) (committedPoint (r .setup .a))) (slot k))
     (elements (quorum (r .setup .t) (r .setup .a)) (combinedValue (r .setup .n) (has (unblamedOf r)) (commitmentIn (r .dealings .commitments)) u))
     ≡ nonce (transcriptOf r) u k
 unfolding nonce transcriptOf unblamedOf
 nonce-is r u k b = combined-is (r .setup) (r .dealings) (r .complaints) (r .challenges) b (slot k) u
+
+-- and shifted
+pub shifted-is : (r : Run) (u k : ℕ) {v d : Element} → v ≡ nonce (transcriptOf r) u k → d ≡ raise generator (r .challenges .shift) → product v d ≡ shiftedNonce (transcriptOf r) u k
+unfolding shiftedNonce transcriptOf transcript
+shifted-is r u k p q = ap₂ product p q
 
 -- φ(u,k) stands u outer, below the array's end
 pub kept-at : (r : Run) (u k : ℕ) → kept r u (k + 1) ≡ getD (r .signatures) ((u - 1) * r .setup .a + k) (scalar 0)

@@ -23,11 +23,13 @@ fn put_signature(out: &mut [u8], at: usize, u: u8, k: u8, nonce: Element, phi: S
     text::put_line(out, at, b"sig", &numbers)
 }
 
-// The signature lines of one u, from the powers of the committed values for it: they are combined, and give R(u,k) at each slot k.
+// The signature lines of one u, from the powers of the committed values for it: they are combined, and give R(u,k) at each slot k, which is shifted.
 fn put_row(out: &mut [u8], at: usize, run: Run, powers: [Element; PLACES], u: u8) -> usize
     requires { ⌜ (wellFormed run ≡ true) × (0 < u) × (u ≤ batch (run .setup .n) (run .setup .t)) × (powers ≡ powersAt (run .setup .n) (run .dealings .commitments) (u - 1)) × (at + mostLine * run .setup .a ≤ length (now out)) ⌝ }
     ensures { λ r. ⌜ Wrote (now (out .entry)) (now (out .exit)) at r (rowLines run u (run .setup .a)) ⌝ }
 {
+    let shift = run.challenges.shift;
+    let moved = Element::GENERATOR.pow(shift);
     let a = run.setup.a;
     let quorum = records::quorum(run.setup.t, a) as u8;
     let values = combination::combined_values(powers, answers::unblamed(run), run.setup.n, quorum);
@@ -37,7 +39,8 @@ fn put_row(out: &mut [u8], at: usize, run: Run, powers: [Element; PLACES], u: u8
     for k in 0..a {
         let nonce = basis
             .weights(interpolation::point(1, k + 1))
-            .product(values);
+            .product(values)
+            .mul(moved);
         let phi = run.signatures[first + k as usize];
         next = put_signature(out, next, u, k + 1, nonce, phi);
     }

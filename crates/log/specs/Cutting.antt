@@ -6,7 +6,7 @@ use lib.ListN.{length, take, drop}
 use lib.Dec.{eqb, leb}
 use Rattle.lists.specs.Tests.{pick}
 use Rattle.records.specs.Bytes.{byteAt}
-use Rattle.records.specs.Tags.{Tag, SU, DE, VE, CH, RE, unknown, tagOf, setupLength, dealingLength, complaintLength, challengesLength, responseLength}
+use Rattle.records.specs.Tags.{Tag, SU, DE, VE, CH, CS, RE, unknown, tagOf, setupLength, dealingLength, complaintLength, challengesLength, shiftedLength, responseLength}
 use Rattle.run.specs.declared.Run.{Run}
 use Rattle.run.specs.Runs.{fresh}
 use Rattle.run.specs.Steps.{stepOf, after}
@@ -18,6 +18,7 @@ lengthAt SU r s = pick (leb 6 (length s)) (setupLength (byteAt s 3)) 0
 lengthAt DE r s = pick (eqb (r .stage) 0) 0 (dealingLength (r .setup .n) (r .setup .t) (r .setup .a))
 lengthAt VE r s = pick (eqb (r .stage) 0) 0 (complaintLength (r .setup .n))
 lengthAt CH r s = pick (eqb (r .stage) 0) 0 (challengesLength (r .setup .n) (r .setup .t) (r .setup .a))
+lengthAt CS r s = pick (eqb (r .stage) 0) 0 (shiftedLength (r .setup .n) (r .setup .t) (r .setup .a))
 lengthAt RE r s = pick (eqb (r .stage) 0) 0 (responseLength (r .setup .n) (r .setup .t))
 lengthAt unknown r s = 0
 

@@ -15,14 +15,14 @@ use borrow.Author.Tests.{eqb-true, eqb-false, le-leb, lt-leb, lt-ltb, ne-eqb}
 use Rattle.lists.specs.Tests.{pick, orNext}
 use Rattle.lists.specs.TestLaws.{pick-case, require-false}
 use Rattle.records.specs.Bytes.{byteAt}
-use Rattle.records.specs.Tags.{Tag, SU, DE, VE, CH, RE, unknown, code, tagOf, setupLength, dealingLength, complaintLength, challengesLength, responseLength}
-use Rattle.refusals.specs.Refusals.{setupRefusal, headRefusal, dealingRefusal, complaintRefusal, challengesRefusal, responseRefusal}
+use Rattle.records.specs.Tags.{Tag, SU, DE, VE, CH, CS, RE, unknown, code, tagOf, setupLength, dealingLength, complaintLength, challengesLength, shiftedLength, responseLength}
+use Rattle.refusals.specs.Refusals.{setupRefusal, headRefusal, dealingRefusal, complaintRefusal, scalarsRefusal, challengesRefusal, shiftedRefusal, responseRefusal}
 use Rattle.dealing.specs.Definitions.{dealingNumber}
 use Rattle.complaint.specs.Definitions.{complaintNumber}
 use Rattle.response.specs.Definitions.{responseNumber}
 use Rattle.run.specs.declared.Run.{Run}
 use Rattle.run.specs.declared.Handler.{Handler}
-use Rattle.run.specs.declared.Handler.the-variants.{TakeSetup, TakeDealing, TakeComplaint, TakeChallenges, TakeResponse, Refuse}
+use Rattle.run.specs.declared.Handler.the-variants.{TakeSetup, TakeDealing, TakeComplaint, TakeChallenges, TakeShifted, TakeResponse, Refuse}
 use Rattle.run.specs.Runs.{fresh, wellFormed, stageOf}
 use Rattle.run.specs.RunLaws.{stage-none, stage-past}
 use Rattle.run.specs.Steps.{takenAt, atStage, handlerAt, refused, answered, handled, stepOf}
@@ -109,6 +109,7 @@ other-stage SU r d e = off-stage SU r TakeSetup e
 other-stage DE r d e = off-stage DE r TakeDealing e
 other-stage VE r d e = off-stage VE r TakeComplaint e
 other-stage CH r d e = off-stage CH r TakeChallenges e
+other-stage CS r d e = off-stage CS r TakeShifted e
 other-stage RE r d e = off-stage RE r TakeResponse e
 other-stage unknown r d e = absurd (d refl)
 
@@ -132,6 +133,7 @@ later-stage SU d e = d refl
 later-stage DE d e = absurd (omega arith)
 later-stage VE d e = absurd (omega arith)
 later-stage CH d e = absurd (omega arith)
+later-stage CS d e = absurd (omega arith)
 later-stage RE d e = absurd (omega arith)
 later-stage unknown d e = absurd (omega arith)
 
@@ -152,6 +154,10 @@ found-short g h r s k next e a z = ap (λ (y : Handler). handled y r s) (at-stag
 or-short : (k next : ℕ) → k ≡ 2 → orNext k next ≡ 2
 unfolding orNext
 or-short k next z = rw z
+
+scalars-short : (size count : ℕ) (s : List ℕ) → length s ≢ size → scalarsRefusal size count s ≡ 2
+unfolding scalarsRefusal
+scalars-short size count s d = require-false _ 2 _ (ne-eqb _ _ d)
 
 head-short : (n size : ℕ) (s : List ℕ) → length s ≢ size → headRefusal n size s ≡ 2
 unfolding headRefusal
@@ -176,11 +182,12 @@ setup-cut s l = require-false _ 2 _ (go (leb 6 (length s)) l)
     go false l = refl
 
 cut-number : (k : Tag) (r : Run) (s : List ℕ) → length s < lengthAt k r s → stageOf r ≡ takenAt k → handled (handlerAt k (stageOf r)) r s ≡ refused r 2
-unfolding handlerAt handled lengthAt dealingNumber dealingRefusal complaintNumber complaintRefusal challengesRefusal responseNumber responseRefusal
+unfolding handlerAt handled lengthAt dealingNumber dealingRefusal complaintNumber complaintRefusal challengesRefusal shiftedRefusal responseNumber responseRefusal
 cut-number SU r s l e = found-short SU TakeSetup r s _ _ e refl (setup-cut s l)
 cut-number DE r s l e = found-short DE TakeDealing r s _ _ e refl (or-short _ _ (or-short _ _ (head-short _ _ s (past-none (eqb (r .stage) 0) l))))
 cut-number VE r s l e = found-short VE TakeComplaint r s _ _ e refl (or-short _ _ (or-short _ _ (head-short _ _ s (past-none (eqb (r .stage) 0) l))))
-cut-number CH r s l e = found-short CH TakeChallenges r s _ _ e refl (require-false _ 2 _ (ne-eqb _ _ (past-none (eqb (r .stage) 0) l)))
+cut-number CH r s l e = found-short CH TakeChallenges r s _ _ e refl (scalars-short _ _ s (past-none (eqb (r .stage) 0) l))
+cut-number CS r s l e = found-short CS TakeShifted r s _ _ e refl (scalars-short _ _ s (past-none (eqb (r .stage) 0) l))
 cut-number RE r s l e = found-short RE TakeResponse r s _ _ e refl (or-short _ _ (or-short _ _ (head-short _ _ s (past-none (eqb (r .stage) 0) l))))
 cut-number unknown r s l e = absurd (omega arith)
 
@@ -211,11 +218,12 @@ measured r s u p = go (decLt (length s) (lengthOf r s))
     go (no n) = inr (p, omega arith)
 
 later-length : (k : Tag) (r : Run) (s : List ℕ) → 1 < code k → r .stage ≢ 0 → 0 < lengthAt k r s
-unfolding lengthAt dealingLength complaintLength challengesLength responseLength
+unfolding lengthAt dealingLength complaintLength challengesLength shiftedLength responseLength
 later-length SU r s p d = absurd (omega arith)
 later-length DE r s p d = rw (ne-eqb _ _ d) (omega arith)
 later-length VE r s p d = rw (ne-eqb _ _ d) (omega arith)
 later-length CH r s p d = rw (ne-eqb _ _ d) (omega arith)
+later-length CS r s p d = rw (ne-eqb _ _ d) (omega arith)
 later-length RE r s p d = rw (ne-eqb _ _ d) (omega arith)
 later-length unknown r s p d = absurd (omega arith)
 
@@ -240,5 +248,6 @@ reading r s = go (tagOf s) refl
     go DE e = inr (later DE e (omega arith) (ℕ-discrete (r .stage) 0))
     go VE e = inr (later VE e (omega arith) (ℕ-discrete (r .stage) 0))
     go CH e = inr (later CH e (omega arith) (ℕ-discrete (r .stage) 0))
+    go CS e = inr (later CS e (omega arith) (ℕ-discrete (r .stage) 0))
     go RE e = inr (later RE e (omega arith) (ℕ-discrete (r .stage) 0))
     go unknown e = inl e

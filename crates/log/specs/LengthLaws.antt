@@ -13,7 +13,7 @@ use borrow.Author.Tests.{eqb-false}
 use Rattle.lists.specs.Tests.{pick}
 use Rattle.lists.specs.TestLaws.{pick-case}
 use Rattle.records.specs.Bytes.{byteAt}
-use Rattle.records.specs.Tags.{Tag, SU, DE, VE, CH, RE, unknown, tagOf, setupLength, dealingLength, complaintLength, challengesLength, responseLength}
+use Rattle.records.specs.Tags.{Tag, SU, DE, VE, CH, CS, RE, unknown, tagOf, setupLength, dealingLength, complaintLength, challengesLength, shiftedLength, responseLength}
 use Rattle.records.specs.RecordLaws.{Bounds, quorum-pos, batch-pos}
 use Rattle.text.specs.Lines.{line}
 use Rattle.text.specs.LineLaws.{line-max}
@@ -33,12 +33,13 @@ past-setup r h n f =
     (λ e p. f (h .formed (omega (arith, eqb-false (r .stage) 0 e)) .bounds))
 
 least-at : (tag : Tag) (r : Run) (s : List ℕ) → Regular r → 1 ≤ lengthAt tag r s → 8 ≤ lengthAt tag r s
-unfolding lengthAt setupLength dealingLength complaintLength challengesLength responseLength
+unfolding lengthAt setupLength dealingLength complaintLength challengesLength shiftedLength responseLength
 least-at SU r s h =
     pick-case (λ (n : ℕ). 1 ≤ n → 8 ≤ n) (leb 6 (length s)) (setupLength (byteAt s 3)) 0 (λ e p. omega arith) (λ e p. absurd (omega arith))
 least-at DE r s h = past-setup r h (dealingLength (r .setup .n) (r .setup .t) (r .setup .a)) (λ b. omega (arith, quorum-pos b))
 least-at VE r s h = past-setup r h (complaintLength (r .setup .n)) (λ b. omega arith)
 least-at CH r s h = past-setup r h (challengesLength (r .setup .n) (r .setup .t) (r .setup .a)) (λ b. omega (arith, mul-le-mul (b .a-pos) (batch-pos b)))
+least-at CS r s h = past-setup r h (shiftedLength (r .setup .n) (r .setup .t) (r .setup .a)) (λ b. omega arith)
 least-at RE r s h = past-setup r h (responseLength (r .setup .n) (r .setup .t)) (λ b. omega (arith, batch-pos b))
 least-at unknown r s h = λ p. absurd (omega arith)
 

@@ -11,7 +11,7 @@ use lib.Dec.{eqb, leb}
 use borrow.Author.Tests.{leb-true, eq-eqb, ne-eqb}
 use Rattle.lists.specs.Tests.{pick}
 use Rattle.lists.specs.TestLaws.{pick-case, and-left, and-right, pick-same}
-use Rattle.records.specs.Tags.{Tag, SU, DE, VE, CH, RE, unknown}
+use Rattle.records.specs.Tags.{Tag, SU, DE, VE, CH, CS, RE, unknown}
 use Rattle.run.specs.declared.Run.{Run}
 use Rattle.run.specs.Runs.{fresh}
 use Rattle.run.specs.Steps.{stepOf, afterFrom, after}
@@ -28,6 +28,7 @@ none-yet SU r s d e = absurd (d refl)
 none-yet DE r s d e = rw (eq-eqb _ _ e)
 none-yet VE r s d e = rw (eq-eqb _ _ e)
 none-yet CH r s d e = rw (eq-eqb _ _ e)
+none-yet CS r s d e = rw (eq-eqb _ _ e)
 none-yet RE r s d e = rw (eq-eqb _ _ e)
 none-yet unknown r s d e = refl
 

@@ -41,6 +41,7 @@ pub fn record_length(run: Run, rest: &[u8]) -> usize
         3 => records::complaint_length(run.setup.n),
         4 => records::challenges_length(run.setup.n, run.setup.t, run.setup.a),
         5 => records::response_length(run.setup.n, run.setup.t),
+        6 => records::shifted_length(run.setup.n, run.setup.t, run.setup.a),
         _ => 0,
     }
 }

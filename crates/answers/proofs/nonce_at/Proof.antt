@@ -3,11 +3,13 @@ use native.Mathlib.Omega.{arith}
 use borrow.Author.Tests.{le-leb, lt-leb}
 use Rattle.lists.specs.CallLaws.{holds, fails}
 use Prim.Native.Nat.{_≤_, _<_}
-use mathlib.Core.Path.{refl, sym, ap, _∙_}
+use mathlib.Core.Path.{_≡_, refl, sym, ap, ap₂, _∙_}
 use Rattle.interpolation.specs.PointLaws.{slot-is}
 use Rattle.records.specs.RecordLaws.{bounds-test}
-use Rattle.protocol.specs.Transcript.{nonce, combinedAt}
+use Rattle.field.specs.Definitions.{product}
+use Rattle.protocol.specs.Transcript.{nonce, shiftedNonce, combinedAt}
 use Rattle.answers.specs.declared.Nonce.the-variants as N
+use Rattle.response.specs.Definitions.{transcript}
 use Rattle.run.specs.Runs.{stageOf, transcriptOf}
 use Rattle.run.specs.RunLaws.{formed-of, stage-live}
 use Rattle.answers.specs.Answers.{nonceOf}
@@ -61,14 +63,28 @@ combined-at-requires c κs =
     let l = live asked in
     bounds-test (formed-of r (stage-live r (stageOf r) refl (omega arith) (omega arith) .1) .bounds)
 
+pow-requires : tie.Need-pow-requires
+pow-requires c κs = search needs
+
+mul-requires : tie.Need-mul-requires
+mul-requires c κs = search needs
+
+-- what the code found before the shift is R(u,k)
+found : (c : tie.After-combined-at) → let a = c .before .before .before .before .before .before .before .before .before .before .args in
+    c .combined-at .result ≡ nonce (transcriptOf (a .run)) (a .u) (a .k)
+unfolding nonce transcriptOf
+found c =
+    let a = c .before .before .before .before .before .before .before .before .before .before .args in
+    c .combined-at .ensures (a .run .challenges) ∙ ap (combinedAt (transcriptOf (a .run)) (a .u)) (c .before .point .ensures ∙ sym (slot-is (a .k)))
+
 returns-4 : tie.Need-returns-4
-unfolding nonceOf nonce transcriptOf
+unfolding nonceOf shiftedNonce transcriptOf transcript
 returns-4 c =
-    let asked = c .before .before .before .before .before in
-    let a = asked .before .before .before .before .before .args in
-    let r = a .run in
+    let made = c .before .before .before in
+    let asked = made .before .before .before .before .before in
+    let r = asked .before .before .before .before .before .args .run in
     rw (le-leb 3 (stageOf r) (live asked .0), le-leb (stageOf r) 5 (live asked .1), holds (asked .before .in-batch .ensures) (asked .if3 .left))
-    (ap N.Is (c .combined-at .ensures (r .challenges) ∙ ap (combinedAt (transcriptOf r) (a .u)) (c .before .point .ensures ∙ sym (slot-is (a .k)))))
+    (ap N.Is (c .mul .ensures ∙ ap₂ product (found made) (c .before .pow .ensures)))
 
 pub nonce-at-spec : {M : Type 1} → statement M
 nonce-at-spec =
@@ -81,4 +97,6 @@ nonce-at-spec =
     returns-3
     point-requires
     combined-at-requires
+    pow-requires
+    mul-requires
     returns-4)

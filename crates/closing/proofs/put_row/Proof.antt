@@ -9,28 +9,35 @@ use Rattle.interpolation.specs.BasisLaws.{weights-by}
 use Rattle.records.specs.RecordLaws.{Bounds, quorum-max}
 use Rattle.text.specs.Texts.{Wrote}
 use Rattle.text.specs.TextLaws.{wrote-none, wrote-length, wrote-append}
-use Rattle.protocol.specs.Transcript.{nonce}
+use Rattle.protocol.specs.Transcript.{nonce, shiftedNonce}
 use Rattle.combination.specs.PowerLaws.{combined-powers}
 use Rattle.run.specs.Runs.{transcriptOf}
 use Rattle.run.specs.RunLaws.{formed-of}
-use Rattle.closing.specs.SignatureLaws.{rowLines, line-is, row-next, row-max, nonce-is, kept-at, kept-below}
+use Rattle.closing.specs.SignatureLaws.{rowLines, line-is, row-next, row-max, nonce-is, shifted-is, kept-at, kept-below}
 use Rattle.closing.proofs.put_row.Statement.{statement}
 use Rattle.closing.proofs.put_row.Tie as tie
 
 abbrev Inv-loop : tie.InvT-loop
-Inv-loop out₀ at u run a quorum values basis first next₀ k₀ out next k = (k ≤ a) × Wrote out₀ out next₀ next (rowLines run u k)
+Inv-loop out₀ at u run moved a quorum values basis first next₀ k₀ out next k = (k ≤ a) × Wrote out₀ out next₀ next (rowLines run u k)
 
 abbrev μ-loop : tie.MeasureT-loop
-μ-loop out₀ at u run a quorum values basis first next₀ k₀ out next k = a - k
+μ-loop out₀ at u run moved a quorum values basis first next₀ k₀ out next k = a - k
 
 bounds : (s : tie.Start Inv-loop μ-loop) → Bounds (s .args .t3 .setup .n) (s .args .t3 .setup .t) (s .args .t3 .setup .a)
 bounds s = formed-of (s .args .t3) (s .pre .0) .bounds
+
+-- where the function begins, from where the loop does
+abbrev start : tie.At-loop Inv-loop μ-loop → tie.Start Inv-loop μ-loop
+start l = l .before .before .before .before .before .before .before .before .before
+
+pow-requires : tie.Need-pow-requires Inv-loop μ-loop
+pow-requires c κs = search needs
 
 quorum-requires : tie.Need-quorum-requires Inv-loop μ-loop
 quorum-requires c κs = search needs
 
 cast-quorum : tie.Need-cast-quorum Inv-loop μ-loop
-cast-quorum c = omega (arith, c .quorum .ensures, quorum-max (bounds (c .before .before)))
+cast-quorum c = omega (arith, c .quorum .ensures, quorum-max (bounds (c .before .before .before .before)))
 
 unblamed-requires : tie.Need-unblamed-requires Inv-loop μ-loop
 unblamed-requires c κs = search needs
@@ -55,7 +62,7 @@ cast-first-2 c = search needs
 
 mul-first : tie.Need-mul-first Inv-loop μ-loop
 mul-first c =
-    let s = c .before .before .before .before .before .before in
+    let s = c .before .before .before .before .before .before .before .before in
     let b = bounds s in
     omega (arith, kept-below b (s .args .u) 0 (s .pre .1) (s .pre .2) (b .a-pos))
 
@@ -66,7 +73,7 @@ loop-holds c = (omega arith, wrote-none _ _)
 -- the slots are few
 slots : (c : tie.In-loop Inv-loop μ-loop) → c .before .loop .k < 255
 slots c =
-    let b = bounds (c .before .before .before .before .before .before .before .before) in
+    let b = bounds (start (c .before)) in
     omega (arith, b .t-pos, b .n-max, b .enough, c .loop-test .taken)
 
 add-point : tie.Need-add-point Inv-loop μ-loop
@@ -81,53 +88,56 @@ weights-requires c κs = search needs
 product-requires : tie.Need-product-requires Inv-loop μ-loop
 product-requires c κs = search needs
 
+mul-requires : tie.Need-mul-requires Inv-loop μ-loop
+mul-requires c κs = search needs
+
 cast-phi : tie.Need-cast-phi Inv-loop μ-loop
-cast-phi c = search needs
+cast-phi c = omega (arith, slots (c .before .before .before .before))
 
 -- the place of φ(u,k) is in the array
 placed : (c : tie.In-loop Inv-loop μ-loop) →
-    let a = c .before .before .before .before .before .before .before .before .args in
+    let a = start (c .before) .args in
     (a .u - 1) * a .t3 .setup .a + c .before .loop .k < 512
 placed c =
-    let s = c .before .before .before .before .before .before .before .before in
+    let s = start (c .before) in
     kept-below (bounds s) (s .args .u) (c .before .loop .k) (s .pre .1) (s .pre .2) (c .loop-test .taken)
 
 add-phi : tie.Need-add-phi Inv-loop μ-loop
-add-phi c = omega (arith, placed (c .before .before .before))
+add-phi c = omega (arith, placed (c .before .before .before .before))
 
 mul-phi : tie.Need-mul-phi Inv-loop μ-loop
-mul-phi c = omega (arith, placed (c .before .before .before))
+mul-phi c = omega (arith, placed (c .before .before .before .before))
 
 element-copy-out-phi : tie.Need-element-copy-out-phi Inv-loop μ-loop
-element-copy-out-phi c = placed (c .before .before .before)
+element-copy-out-phi c = placed (c .before .before .before .before)
 
 add-put-signature : tie.Need-add-put-signature Inv-loop μ-loop
-add-put-signature c = omega (arith, slots (c .before .before .before .before .before))
+add-put-signature c = omega (arith, slots (c .before .before .before .before .before .before))
 
 -- the buffer is as long as it was, and the place has gone on by at most 48 for each slot
 room : (c : tie.At-loop Inv-loop μ-loop) →
-    let a = c .before .before .before .before .before .before .before .args in
+    let a = start c .args in
     (length (c .loop .out) ≡ length (a .out .now)) × (c .loop .next ≤ a .at + 48 * c .loop .k)
 room c =
-    let a = c .before .before .before .before .before .before .before .args in
+    let a = start c .args in
     (wrote-length (c .loop .inv .1), omega (arith, c .loop .inv .1 .place, row-max (a .t3) (a .u) (c .loop .k)))
 
 put-signature-requires : tie.Need-put-signature-requires Inv-loop μ-loop
 put-signature-requires c κs =
-    let i = c .before .before .before .before .before in
-    let s = i .before .before .before .before .before .before .before .before in
+    let i = c .before .before .before .before .before .before in
+    let s = start (i .before) in
     omega (arith, room (i .before), i .loop-test .taken, s .pre .4)
 
 add-k : tie.Need-add-k Inv-loop μ-loop
-add-k c = omega (arith, slots (c .before .before .before .before .before .before .before .before))
+add-k c = omega (arith, slots (c .before .before .before .before .before .before .before .before .before))
 
 loop-less : tie.Need-loop-less Inv-loop μ-loop
 loop-less c = search needs
 
--- what the code found is R(u,k)
+-- what the code found before the shift is R(u,k)
 found : (c : tie.After-product Inv-loop μ-loop) →
     let l = c .before .before .before .before in
-    let a = l .before .before .before .before .before .before .before .args in
+    let a = l .before .before .before .before .before .before .before .before .before .args in
     c .product .result ≡ nonce (transcriptOf (a .t3)) (a .u) (l .loop .k + 1)
 found c =
     let w = c .before in
@@ -135,7 +145,7 @@ found c =
     let b = l .before in
     let v = b .before .before in
     let q = v .before in
-    let s = q .before .before .before in
+    let s = q .before .before .before .before .before in
     let r = s .args .t3 in
     let few = quorum-max (bounds s) in
     let values = combined-powers (r .setup .n) _ (r .dealings .commitments) (s .args .u) _ (omega (arith, few, q .before .quorum .ensures)) refl (s .pre .3) (v .combined-values .ensures) in
@@ -143,13 +153,24 @@ found c =
     ∙ rw (w .weights .ensures, w .before .point .ensures, b .basis .ensures, weights-by, b .before .committed-points .ensures, values, q .unblamed .ensures, q .before .quorum .ensures, ← slot-is)
     (nonce-is r (s .args .u) (l .loop .k + 1) (bounds s))
 
+-- and then R(u,k) shifted
+moved : (c : tie.After-mul Inv-loop μ-loop) →
+    let l = c .before .before .before .before .before in
+    let a = start l .args in
+    c .mul .result ≡ shiftedNonce (transcriptOf (a .t3)) (a .u) (l .loop .k + 1)
+moved c =
+    let l = c .before .before .before .before .before in
+    let p = l .before .before .before .before .before .before in
+    let a = start l .args in
+    c .mul .ensures ∙ shifted-is (a .t3) (a .u) (l .loop .k + 1) (found (c .before)) (p .pow .ensures)
+
 loop-again : tie.Need-loop-again Inv-loop μ-loop
 loop-again c =
     let d = c .before .before .before .before .before in
-    let l = d .before .before .before .before in
-    let a = l .before .before .before .before .before .before .before .args in (
+    let l = d .before .before .before .before .before in
+    let a = start l .args in (
       omega arith,
-      rw (row-next (a .t3) (a .u) (l .loop .k), ← line-is (a .t3) (a .u) (l .loop .k + 1) (found d) (sym (kept-at (a .t3) (a .u) (l .loop .k))))
+      rw (row-next (a .t3) (a .u) (l .loop .k), ← line-is (a .t3) (a .u) (l .loop .k + 1) (moved d) (sym (kept-at (a .t3) (a .u) (l .loop .k))))
           (wrote-append (l .loop .inv .1) (c .before .before .put-signature .ensures)),
     )
 
@@ -159,7 +180,7 @@ same-length c = room (c .before) .0
 returns : tie.Need-returns Inv-loop μ-loop
 returns c =
     let l = c .before in
-    let s = l .before .before .before .before .before .before .before in
+    let s = start l in
     let end : l .loop .k ≡ s .args .t3 .setup .a = omega arith in
     rw end at (l .loop .inv .1)
 
@@ -169,6 +190,7 @@ put-row-spec =
     (tie.spec
     Inv-loop
     μ-loop
+    pow-requires
     quorum-requires
     cast-quorum
     unblamed-requires
@@ -184,6 +206,7 @@ put-row-spec =
     point-requires
     weights-requires
     product-requires
+    mul-requires
     cast-phi
     add-phi
     mul-phi

@@ -1,38 +1,24 @@
 -- `record_length` meets its contract: each way of the code is one tag of the definition. Assumes nothing.
-use mathlib.Core.Path.{_≡_, refl, sym, ap, _∙_}
+use mathlib.Core.Path.{_≡_, sym, ap, _∙_}
 use Prim.Native.Nat.{ℕ}
 use borrow.Author.Needs.{needs}
 use borrow.Author.Tests.{le-leb, lt-leb, ne-eqb}
-use lib.Dec.{eqb}
-use Rattle.lists.specs.Tests.{pick}
-use Rattle.records.specs.Tags.{Tag, SU, DE, VE, CH, RE, unknown, code, tagOf}
+use Rattle.records.specs.Tags.{Tag, SU, DE, VE, CH, CS, RE, unknown, code, decoded, tagOf}
+use Rattle.records.specs.RecordLaws.{decoded-code}
 use Rattle.log.specs.Cutting.{lengthAt, lengthOf}
 use Rattle.log.specs.TurnLaws.{none-yet}
 use Rattle.log.proofs.record_length.Statement.{statement}
 use Rattle.log.proofs.record_length.Tie as tie
 
--- the tag that a number stands for
-ofCode : ℕ → Tag
-ofCode k = pick (eqb k 1) SU (pick (eqb k 2) DE (pick (eqb k 3) VE (pick (eqb k 4) CH (pick (eqb k 5) RE unknown))))
-
-ofCode-code : (g : Tag) → ofCode (code g) ≡ g
-unfolding ofCode
-ofCode-code SU = refl
-ofCode-code DE = refl
-ofCode-code VE = refl
-ofCode-code CH = refl
-ofCode-code RE = refl
-ofCode-code unknown = refl
-
 -- a number that the code found is a tag's
 tag-is : {k : ℕ} (g h : Tag) → k ≡ code g → k ≡ code h → g ≡ h
-tag-is g h p q = sym (ofCode-code g) ∙ ap ofCode (sym p ∙ q) ∙ ofCode-code h
+tag-is g h p q = sym (decoded-code g) ∙ ap decoded (sym p ∙ q) ∙ decoded-code h
 
 -- and otherwise none's
-tag-none : {k : ℕ} (g : Tag) → k ≡ code g → (k ≡ 1 → ⊥) → (k ≡ 2 → ⊥) → (k ≡ 3 → ⊥) → (k ≡ 4 → ⊥) → (k ≡ 5 → ⊥) → g ≡ unknown
-unfolding ofCode
-tag-none {k} g p d1 d2 d3 d4 d5 =
-    sym (ofCode-code g) ∙ ap ofCode (sym p) ∙ simp (ne-eqb k 1 d1, ne-eqb k 2 d2, ne-eqb k 3 d3, ne-eqb k 4 d4, ne-eqb k 5 d5)
+tag-none : {k : ℕ} (g : Tag) → k ≡ code g → (k ≡ 1 → ⊥) → (k ≡ 2 → ⊥) → (k ≡ 3 → ⊥) → (k ≡ 4 → ⊥) → (k ≡ 5 → ⊥) → (k ≡ 6 → ⊥) → g ≡ unknown
+unfolding decoded
+tag-none {k} g p d1 d2 d3 d4 d5 d6 =
+    sym (decoded-code g) ∙ ap decoded (sym p) ∙ simp (ne-eqb k 1 d1, ne-eqb k 2 d2, ne-eqb k 3 d3, ne-eqb k 4 d4, ne-eqb k 5 d5, ne-eqb k 6 d6)
 
 tag-requires : tie.Need-tag-requires
 tag-requires c κs = search needs
@@ -80,6 +66,9 @@ challenges-length-requires c κs = search needs
 response-length-requires : tie.Need-response-length-requires
 response-length-requires c κs = search needs
 
+shifted-length-requires : tie.Need-shifted-length-requires
+shifted-length-requires c κs = search needs
+
 returns-4 : tie.Need-returns-4
 unfolding lengthOf lengthAt
 returns-4 c =
@@ -111,9 +100,16 @@ returns-7 c =
 returns-8 : tie.Need-returns-8
 unfolding lengthOf lengthAt
 returns-8 c =
+    let m = c .before in
+    let t = m .before .before .before in
+    rw (tag-is (tagOf (t .before .before .args .rest .now)) CS (t .tag .ensures) (m .match .keys5), ne-eqb _ 0 (m .before .if3 .left)) (c .shifted-length .ensures)
+
+returns-9 : tie.Need-returns-9
+unfolding lengthOf lengthAt
+returns-9 c =
     let t = c .before .before .before in
     let n = c .match .rest in
-    rw (tag-none (tagOf (t .before .before .args .rest .now)) (t .tag .ensures) (c .before .before .if1 .left) (n .0 .0 .0 .1) (n .0 .0 .1) (n .0 .1) (n .1))
+    rw (tag-none (tagOf (t .before .before .args .rest .now)) (t .tag .ensures) (c .before .before .if1 .left) (n .0 .0 .0 .0 .1) (n .0 .0 .0 .1) (n .0 .0 .1) (n .0 .1) (n .1))
 
 pub record-length-spec : {M : Type 1} → statement M
 record-length-spec =
@@ -129,8 +125,10 @@ record-length-spec =
     complaint-length-requires
     challenges-length-requires
     response-length-requires
+    shifted-length-requires
     returns-4
     returns-5
     returns-6
     returns-7
-    returns-8)
+    returns-8
+    returns-9)
