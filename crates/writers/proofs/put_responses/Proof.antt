@@ -46,11 +46,11 @@ number-made n a qual challenges weights key shares u s v e m h = h ∙ rw (s, m,
 
 number-is : (r : Run) (j key : ℕ) (shares : List ℕ) {qual : ℕ} {points weights : Row} {x : Scalar}
     → wellFormed r ≡ true → qual ≡ unblamedOf r → points ≡ listed (r .setup .a) (λ v. slot (v + 1)) → x ≡ point j 0 → weights ≡ weightsOf points x
-    → (u : ℕ) → number (r .setup .n) (r .setup .a) qual (r .challenges) weights key shares u ≡ responseFor r j key shares u
+    → (u : ℕ) → number (r .setup .n) (r .setup .a) qual (r .challenges .numbers) weights key shares u ≡ responseFor r j key shares u
 unfolding responseFor challengeAt transcriptOf transcript
 number-is r j key shares f q p x w u =
     ap₂ (λ (h : ℕ → Bool) (e : Scalar). plus (combinedShare (r .setup .n) h shares u) (times e (scalar key))) (ap has q ∙ qual-is r)
-    (rw (w, p, x, ← party-is j) (scalars-interpolated (r .setup .a) (λ v. slot (v + 1)) (λ v. challengeIn (r .setup .a) (r .challenges) u (v + 1)) (party j) (omega (arith, formed-of r f .bounds))))
+    (rw (w, p, x, ← party-is j) (scalars-interpolated (r .setup .a) (λ v. slot (v + 1)) (λ v. challengeIn (r .setup .a) (r .challenges .numbers) u (v + 1)) (party j) (omega (arith, formed-of r f .bounds))))
 
 abbrev Inv-loop : tie.InvT-loop
 Inv-loop out₀ j key shares n a count qual challenges weights u₀ out u =
@@ -128,7 +128,7 @@ loop-again c =
     let l = shared .before .before .loop in
     let a = shared .before .before .before .before .before .before .before .before .before .before .before .args in
     let made =
-    number-made (a .run .setup .n) (a .run .setup .a) _ (a .run .challenges) _ (a .key) (a .shares .now) (l .u + 1)
+    number-made (a .run .setup .n) (a .run .setup .a) _ (a .run .challenges .numbers) _ (a .key) (a .shares .now) (l .u + 1)
     (shared .combined-share .ensures) (s .before .before .before .challenge-values .ensures) (s .before .before .sum .ensures) (s .before .mul .ensures) (s .add .ensures) in
     (omega arith, put-next _ _ _ (l .u) (l .inv .1) (ap (λ (x : Scalar). x .0) made) (p .put .ensures))
 
