@@ -11,8 +11,8 @@ use Rattle.lists.specs.TestLaws.{pick-map, and-left}
 use Rattle.sets.specs.MaskLaws.{has-minus}
 use Rattle.field.specs.declared.Scalar.{Scalar}
 use Rattle.field.specs.declared.Element.{Element}
-use Rattle.protocol.specs.Transcript.{nonce}
-use Rattle.protocol.specs.AlikeLaws.{nonce-same}
+use Rattle.protocol.specs.Transcript.{shiftedNonce}
+use Rattle.protocol.specs.AlikeLaws.{shifted-same}
 use Rattle.answers.specs.declared.Nonce.the-variants as N
 use Rattle.answers.specs.declared.Signature.the-variants as S
 use Rattle.response.specs.Definitions.{transcript}
@@ -70,10 +70,10 @@ module _ (l : List (List ℕ)) where
   unfolding nonceOf nonceValues nonceBy
   nonce-is u k =
       let g = stageBy (accepted l) in
-      pick-map nonceValues ((leb 3 (stageOf (after l)) && leb (stageOf (after l)) 5) && inBatch (after l) u k) (N.Is (nonce (transcriptOf (after l)) u k)) N.None
-      ∙ ap (λ (g : ℕ). pick ((leb 3 g && leb g 5) && inBatch (after l) u k) (nonce (transcriptOf (after l)) u k ∷ []) []) stage-is
+      pick-map nonceValues ((leb 3 (stageOf (after l)) && leb (stageOf (after l)) 5) && inBatch (after l) u k) (N.Is (shiftedNonce (transcriptOf (after l)) u k)) N.None
+      ∙ ap (λ (g : ℕ). pick ((leb 3 g && leb g 5) && inBatch (after l) u k) (shiftedNonce (transcriptOf (after l)) u k ∷ []) []) stage-is
       ∙ choice-same (leb 3 g && leb g 5) _ _ _ _ [] (λ e. place-same (live e) u k)
-      (λ e d. ap (λ (v : Element). v ∷ []) (nonce-same (transcriptOf (after l)) (read (accepted l)) (made-alike l (live e)) u k))
+      (λ e d. ap (λ (v : Element). v ∷ []) (shifted-same (transcriptOf (after l)) (read (accepted l)) (made-alike l (live e)) u k))
     where
       live : (leb 3 (stageBy (accepted l)) && leb (stageBy (accepted l)) 5) ≡ true → 0 < after l .stage
       live e = omega (arith, stage-by l, leb-true 3 (stageBy (accepted l)) (and-left _ _ e))

@@ -13,15 +13,15 @@ use Rattle.field.specs.declared.Scalar.{Scalar}
 use Rattle.field.specs.declared.Element.{Element}
 use Rattle.records.specs.Parameters.{quorum, batch}
 use Rattle.records.specs.Bytes.{sender, numberAt, word}
-use Rattle.records.specs.Tags.{SU, DE, VE, CH, RE, tagOf, sharesFrom}
+use Rattle.records.specs.Tags.{SU, DE, VE, CH, CS, RE, tagOf, sharesFrom}
 use Rattle.refusals.specs.Refusals.{complaintRefusal}
 use Rattle.text.specs.Lines.{feed, line, setText}
-use Rattle.protocol.specs.Transcript.{nonce, validShare}
+use Rattle.protocol.specs.Transcript.{shiftedNonce, validShare}
 use Rattle.run.specs.Runs.{kept, stageOf}
 use Rattle.run.specs.Steps.{after}
 use Rattle.answers.specs.Answers.{noSets, setsOf, nonceOf, phiAnswer, nonceValues, phiValues}
 use Rattle.closing.specs.Closing.{holdWord, qualWord, badWord, endWord, sigLine}
-use Rattle.promises.specs.Lists.{accepted, ofTag, hold, bad, read, phi, qualified, stageBy, recordOf, dealer}
+use Rattle.promises.specs.Lists.{accepted, ofTag, hold, bad, read, shiftedPhi, qualified, stageBy, recordOf, dealer}
 use Rattle.promises.specs.Places.{Within, isPlace}
 
 -- ---- demand 3
@@ -30,13 +30,13 @@ use Rattle.promises.specs.Places.{Within, isPlace}
 abbrev pub Place : List (List ℕ) → ℕ → ℕ → Type 0
 Place l u k = Within (read (accepted l)) u k
 
--- the run keeps φ(u,k) of the accepted RE; it is a scalar; and 4^φ(u,k) = R(u,k) × S^e(u,k)
+-- the run keeps φ(u,k) of the accepted RE, shifted; it is a scalar; and 4^φ(u,k) = R(u,k) × S^e(u,k), both shifted
 pub record Signed (l : List (List ℕ)) (u k : ℕ) : Type 0 where
-  pub keeps : kept (after l) u k ≡ phi (accepted l) u k
-  pub below : IsScalar (phi (accepted l) u k)
-  pub verifies : raise generator (phi (accepted l) u k) ≡ product (nonce (read (accepted l)) u k) (raise (read (accepted l) .key 0) (read (accepted l) .challenge u k))
+  pub keeps : kept (after l) u k ≡ shiftedPhi (accepted l) u k
+  pub below : IsScalar (shiftedPhi (accepted l) u k)
+  pub verifies : raise generator (shiftedPhi (accepted l) u k) ≡ product (shiftedNonce (read (accepted l)) u k) (raise (read (accepted l) .key 0) (read (accepted l) .challenge u k))
 
--- what has been accepted: one SU; n-t DE from different dealers; n-t VE from different holders, with at most t dealers in BAD; one CH; and need RE
+-- what has been accepted: one SU; n-t DE from different dealers; n-t VE from different holders, with at most t dealers in BAD; one CH or CS; and need RE
 -- from different members of HOLD
 pub record Rows (l : List (List ℕ)) : Type 0 where
   pub setups : length (ofTag SU (accepted l)) ≡ 1
@@ -45,7 +45,7 @@ pub record Rows (l : List (List ℕ)) : Type 0 where
   pub complaints : length (ofTag VE (accepted l)) ≡ read (accepted l) .n - read (accepted l) .t
   pub holders-differ : Distinct sender (ofTag VE (accepted l))
   pub few-bad : count (read (accepted l) .n) (bad (accepted l)) ≤ read (accepted l) .t
-  pub challenges : length (ofTag CH (accepted l)) ≡ 1
+  pub challenges : length (ofTag CH (accepted l)) + length (ofTag CS (accepted l)) ≡ 1
   pub responses : length (ofTag RE (accepted l)) ≡ quorum (read (accepted l) .t) (read (accepted l) .a)
   pub responders-differ : Distinct sender (ofTag RE (accepted l))
   pub responders-held : All (λ s. hold (accepted l) (sender s) ≡ true) (ofTag RE (accepted l))
@@ -54,13 +54,13 @@ pub record Rows (l : List (List ℕ)) : Type 0 where
 
 -- of a list of accepted records:
 module _ (l : List (List ℕ)) where
-  -- R(u,k) at stages 3 to 5, at the places of the list
+  -- R(u,k), shifted, at stages 3 to 5, at the places of the list
   unfoldable pub nonceBy : ℕ → ℕ → List Element
-  nonceBy u k = pick ((leb 3 (stageBy l) && leb (stageBy l) 5) && isPlace (read l) u k) (nonce (read l) u k ∷ []) []
+  nonceBy u k = pick ((leb 3 (stageBy l) && leb (stageBy l) 5) && isPlace (read l) u k) (shiftedNonce (read l) u k ∷ []) []
 
-  -- φ(u,k) at stage 5, at the places of the list
+  -- φ(u,k), shifted, at stage 5, at the places of the list
   unfoldable pub phiBy : ℕ → ℕ → List Scalar
-  phiBy u k = pick (eqb (stageBy l) 5 && isPlace (read l) u k) (phi l u k ∷ []) []
+  phiBy u k = pick (eqb (stageBy l) 5 && isPlace (read l) u k) (shiftedPhi l u k ∷ []) []
 
 -- HOLD, QUAL and BAD are fixed, and have the members that the accepted records give them
 pub record Fixed (l : List (List ℕ)) : Type 0 where
@@ -113,13 +113,13 @@ module _ (l : List (List ℕ)) where
   unfoldable pub membersLine : List ℕ → (ℕ → Bool) → List ℕ
   membersLine word set = word ++ (setText (pick (leb 3 (stageBy l)) (members (read l .n) set) []) ++ (feed ∷ []))
 
-  -- the lines `sig u k R φ` numbered below m, u outer
+  -- the lines `sig u k R φ` numbered below m, u outer, R and φ shifted
   unfoldable pub signedLines : ℕ → List ℕ
   signedLines zero = []
   signedLines (suc x) =
       let u = x / read l .a + 1 in
       let k = x % read l .a + 1 in
-      signedLines x ++ sigLine u k (nonce (read l) u k) (phi l u k)
+      signedLines x ++ sigLine u k (shiftedNonce (read l) u k) (shiftedPhi l u k)
 
   -- the sets, at stage 5 every signature, and the stage
   unfoldable pub closingOf : List ℕ

@@ -15,19 +15,19 @@ use Rattle.sets.specs.Masks.{has, maskOf}
 use Rattle.sets.specs.MaskLaws.{has-none, has-maskOf, has-above, has-le, maskOf-lt}
 use Rattle.field.specs.Definitions.{scalar, element}
 use Rattle.records.specs.Bytes.{numberAt, word, sender}
-use Rattle.records.specs.Tags.{Tag, SU, DE, VE, CH, RE, unknown, tagOf, sharesFrom}
-use Rattle.refusals.specs.Refusals.{setupRefusal, headRefusal, dealingRefusal, complaintRefusal, challengesRefusal, responseRefusal}
+use Rattle.records.specs.Tags.{Tag, SU, DE, VE, CH, CS, RE, unknown, tagOf, sharesFrom}
+use Rattle.refusals.specs.Refusals.{setupRefusal, headRefusal, dealingRefusal, complaintRefusal, scalarsRefusal, challengesRefusal, shiftedRefusal, responseRefusal}
 use Rattle.refusals.specs.RefusalLaws.{complaint-passed}
 use Rattle.protocol.specs.Transcript.{validShare}
 use Rattle.run.specs.declared.Run.{Run}
 use Rattle.run.specs.Runs.{stageOf, transcriptOf}
 use Rattle.dealing.specs.Definitions.{dealingNumber, wrongShares, mayBlame}
 use Rattle.complaint.specs.Definitions.{complaintNumber}
-use Rattle.run.specs.Steps.{afterSetup, afterDealing, afterComplaint, afterChallenges, afterResponse, takenAt, atStage, handlerAt, handled, stepOf, after}
+use Rattle.run.specs.Steps.{afterSetup, afterDealing, afterComplaint, afterChallenges, afterShifted, afterResponse, takenAt, atStage, handlerAt, handled, stepOf, after}
 use Rattle.run.specs.StepLaws.{step-taken, stage-case, answered-number}
 use Rattle.run.specs.declared.Reply.{Reply}
 use Rattle.run.specs.declared.Handler.{Handler}
-use Rattle.run.specs.declared.Handler.the-variants.{TakeSetup, TakeDealing, TakeComplaint, TakeChallenges, TakeResponse}
+use Rattle.run.specs.declared.Handler.the-variants.{TakeSetup, TakeDealing, TakeComplaint, TakeChallenges, TakeShifted, TakeResponse}
 use Rattle.response.specs.Definitions.{transcript, responseNumber}
 use Rattle.writers.specs.Writers.{complaintBytes}
 use Rattle.writers.specs.Accepted.{complaint-mask}
@@ -112,6 +112,10 @@ head-other : (n size : ℕ) (s : List ℕ) → headRefusal n size s ≢ 13
 unfolding headRefusal
 head-other n size s = other _ 2 _ refl (other _ 3 _ refl (other _ 5 0 refl (eqb-false 0 13 refl)))
 
+scalars-other : (size count : ℕ) (s : List ℕ) → scalarsRefusal size count s ≢ 13
+unfolding scalarsRefusal
+scalars-other size count s = other _ 2 _ refl (other _ 3 _ refl (other _ 6 0 refl (eqb-false 0 13 refl)))
+
 module _ (r : Run) (s : List ℕ) where
   dealing-other : dealingNumber (r .setup) (r .dealings) s ≢ 13
   unfolding dealingNumber dealingRefusal
@@ -119,10 +123,6 @@ module _ (r : Run) (s : List ℕ) where
       or-other _ _
       (or-other _ _ (head-other _ _ s) (other _ 7 _ refl (other _ 6 0 refl (eqb-false 0 13 refl))))
       (other _ 12 0 refl (eqb-false 0 13 refl))
-
-  challenges-other : challengesRefusal (r .setup .n) (r .setup .t) (r .setup .a) s ≢ 13
-  unfolding challengesRefusal
-  challenges-other = other _ 2 _ refl (other _ 3 _ refl (other _ 6 0 refl (eqb-false 0 13 refl)))
 
   response-other : responseNumber (r .setup) (r .dealings) (r .complaints) (r .challenges) (r .responses) s ≢ 13
   unfolding responseNumber responseRefusal
@@ -205,7 +205,7 @@ module _ (l : List (List ℕ)) (s : List ℕ) where
       ap (λ (y : Reply). y .number) (step-taken VE (after l) s (h .tag) (answers l .stage ∙ h .stage)) ∙ answered-number (after l) _ (afterComplaint (after l) s) ∙ e
 
   number-13 : (k : Tag) → tagOf s ≡ k → handled (handlerAt k (stageOf (after l))) (after l) s .number ≡ 13 → FalseComplaint l s
-  unfolding handlerAt handled takenAt
+  unfolding handlerAt handled takenAt challengesRefusal shiftedRefusal
   number-13 SU m e = absurd (setup-other s (sym (answered-number (after l) (setupRefusal s) (afterSetup s)) ∙ at-13 SU TakeSetup (after l) s e .1))
   number-13 DE m e =
       absurd (dealing-other (after l) s (sym (answered-number (after l) (dealingNumber (after l .setup) (after l .dealings) s) (afterDealing (after l) s)) ∙ at-13 DE TakeDealing (after l) s e .1))
@@ -213,8 +213,11 @@ module _ (l : List (List ℕ)) (s : List ℕ) where
       let c = at-13 VE TakeComplaint (after l) s e in
       false-of m (c .0) (sym (answered-number (after l) (complaintNumber (after l .setup) (after l .dealings) (after l .complaints) s) (afterComplaint (after l) s)) ∙ c .1)
   number-13 CH m e =
-      absurd (challenges-other (after l) s (sym (answered-number (after l) (challengesRefusal (after l .setup .n) (after l .setup .t) (after l .setup .a) s) (afterChallenges (after l) s))
+      absurd (scalars-other _ _ s (sym (answered-number (after l) (challengesRefusal (after l .setup .n) (after l .setup .t) (after l .setup .a) s) (afterChallenges (after l) s))
       ∙ at-13 CH TakeChallenges (after l) s e .1))
+  number-13 CS m e =
+      absurd (scalars-other _ _ s (sym (answered-number (after l) (shiftedRefusal (after l .setup .n) (after l .setup .t) (after l .setup .a) s) (afterShifted (after l) s))
+      ∙ at-13 CS TakeShifted (after l) s e .1))
   number-13 RE m e =
       absurd (response-other (after l) s (sym (answered-number (after l) (responseNumber (after l .setup) (after l .dealings) (after l .complaints) (after l .challenges) (after l .responses) s) (afterResponse (after l) s))
       ∙ at-13 RE TakeResponse (after l) s e .1))

@@ -1,4 +1,4 @@
--- Demand 3 (document 01, "The run"): one claim about whole lists of records. Assumes nothing.
+-- Demand 3 (document 01, "The run", over the shifted pair of document 02, request 2.1): one claim about whole lists of records. Assumes nothing.
 use mathlib.Core.Path.{_≡_, sym, _∙_}
 use mathlib.Core.List.{List}
 use Prim.Native.Nat.{ℕ}
@@ -7,7 +7,7 @@ use Rattle.field.specs.ElementLaws.{generator-unique}
 use Rattle.protocol.specs.Alike.{Alike}
 use Rattle.run.specs.Runs.{kept}
 use Rattle.run.specs.Steps.{after}
-use Rattle.promises.specs.Lists.{accepted, read, phi}
+use Rattle.promises.specs.Lists.{accepted, read, shiftedPhi}
 use Rattle.promises.specs.PlaceLaws.{within-same}
 use Rattle.promises.specs.MadeLaws.{made-live, made-dealings, made-dealers-differ, made-complaints, made-holders-differ, made-few-bad}
 use Rattle.promises.specs.FinishedLaws.{equation-same, rows-number, rows-differ, rows-held, kept-is, phi-range, phi-verifies}
@@ -33,8 +33,8 @@ module _ (l : List (List ℕ)) (e : after l .stage ≡ 5) where
   signed u k p = record { keeps = kept-is l e u k p; below = phi-range l e u k p; verifies = phi-verifies l e u k p }
 
 -- Every list that takes a fresh run to stage 5, refused and senseless records included: its rows are as many as they must be, from different parties;
--- every (u,k) is signed; and every other such list that is alike in setup, QUAL, the commitments of QUAL's dealers and the challenges ends in the
--- same numbers.
+-- every (u,k) is signed; and every other such list that is alike in setup, QUAL, the commitments of QUAL's dealers, the challenges and the shift ends
+-- in the same numbers.
 pub demand-3 : (l : List (List ℕ)) → after l .stage ≡ 5
     → Rows l
     × ((u k : ℕ) → Place l u k → Signed l u k)
@@ -46,6 +46,6 @@ demand-3 l e = (rows l e, signed l e, agree)
         let x = signed l e u k p in
         let y = signed m d u k (within-same (read (accepted l)) (read (accepted m)) (h .n-same) (h .t-same) (h .a-same) u k p) in
         x .keeps
-        ∙ generator-unique (phi (accepted l) u k) (phi (accepted m) u k) (x .below) (y .below)
+        ∙ generator-unique (shiftedPhi (accepted l) u k) (shiftedPhi (accepted m) u k) (x .below) (y .below)
         (x .verifies ∙ equation-same (read (accepted l)) (read (accepted m)) h u k p ∙ sym (y .verifies))
         ∙ sym (y .keeps)

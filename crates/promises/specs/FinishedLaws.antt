@@ -1,5 +1,5 @@
--- At stage 5 a run keeps the φ of its list, and φ satisfies the signature equation. Assumes nothing.
--- The numbers that the run keeps and the rows of the list are in another order; both interpolate to a number that satisfies one equation, so it is
+-- At stage 5 a run keeps the φ of its list, shifted, which satisfies the signature equation. Assumes nothing.
+-- Before the shift: the numbers that the run keeps and the rows of the list are in another order; both interpolate to a number that satisfies one equation, so it is
 -- one number.
 use mathlib.Core.Path.{_≡_, sym, ap, ap₂, _∙_}
 use mathlib.Core.Bool.{true}
@@ -12,23 +12,26 @@ use Rattle.lists.specs.MemberLaws.{all-getD, all-map, distinct-getD}
 use Rattle.sets.specs.Masks.{has}
 use Rattle.sets.specs.MemberLaws.{Member, members-all, members-distinct}
 use Rattle.field.specs.declared.Element.{Element}
-use Rattle.field.specs.Definitions.{scalar, generator, IsScalar, product, raise}
+use Rattle.field.specs.declared.Scalar.{Scalar}
+use Rattle.field.specs.Definitions.{scalar, generator, IsScalar, plus, product, raise}
+use Rattle.field.specs.ScalarLaws.{plus-range}
 use Rattle.field.specs.ElementLaws.{generator-unique, same-is}
 use Rattle.interpolation.specs.Definitions.{party}
 use Rattle.interpolation.specs.PointLaws.{scalarAt-range}
 use Rattle.records.specs.Parameters.{mostParties, quorum, batch}
 use Rattle.records.specs.Bytes.{word, sender}
 use Rattle.records.specs.Tags.{RE}
-use Rattle.protocol.specs.Transcript.{Transcript, passes, nonce, responseAt}
+use Rattle.protocol.specs.Transcript.{Transcript, passes, nonce, shiftedNonce, responseAt}
 use Rattle.protocol.specs.Alike.{Alike}
-use Rattle.protocol.specs.AlikeLaws.{nonce-same}
+use Rattle.protocol.specs.AlikeLaws.{shifted-same}
 use Rattle.protocol.specs.Signature.{signature}
+use Rattle.protocol.specs.ShiftLaws.{shift-verifies}
 use Rattle.run.specs.declared.Run.{Run}
 use Rattle.arrays.specs.Arrays.{base, cell}
-use Rattle.response.specs.Definitions.{transcript, respondersOf, phiOf}
+use Rattle.response.specs.Definitions.{transcript, respondersOf, phiOf, shiftedPhiOf}
 use Rattle.run.specs.Runs.{transcriptOf, kept}
 use Rattle.run.specs.Steps.{after}
-use Rattle.promises.specs.Lists.{accepted, ofTag, sentBy, recordOf, hold, read, phi}
+use Rattle.promises.specs.Lists.{accepted, ofTag, sentBy, recordOf, hold, read, phi, shiftedPhi}
 use Rattle.promises.specs.ListLaws.{recordOf-all, recordOf-sender}
 use Rattle.promises.specs.InvariantLaws.{PassingRow, Live, live-bounds}
 use Rattle.promises.specs.Places.{Within}
@@ -37,13 +40,16 @@ use Rattle.promises.specs.MadeLaws.{made-live, made-sound, made-hold, ma
 
 -- ---- the signature equation
 
--- its right side, R(u,k) × S^e(u,k)
-abbrev pub rightSide : Transcript → ℕ → ℕ → Element
+-- its right side before the shift, R(u,k) × S^e(u,k), and with R(u,k) shifted
+abbrev rightSide : Transcript → ℕ → ℕ → Element
 rightSide w u k = product (nonce w u k) (raise (w .key 0) (w .challenge u k))
 
+abbrev shiftedSide : Transcript → ℕ → ℕ → Element
+shiftedSide w u k = product (shiftedNonce w u k) (raise (w .key 0) (w .challenge u k))
+
 -- what is alike has one equation
-pub equation-same : (w z : Transcript) → Alike w z → (u k : ℕ) → Within w u k → rightSide w u k ≡ rightSide z u k
-equation-same w z h u k c = ap₂ product (nonce-same w z h u k) (ap₂ raise (h .key-same 0 (omega arith)) (h .challenge-same u k (c .u-pos) (c .u-max) (c .k-pos) (c .k-max)))
+pub equation-same : (w z : Transcript) → Alike w z → (u k : ℕ) → Within w u k → shiftedSide w u k ≡ shiftedSide z u k
+equation-same w z h u k c = ap₂ product (shifted-same w z h u k) (ap₂ raise (h .key-same 0 (omega arith)) (h .challenge-same u k (c .u-pos) (c .u-max) (c .k-pos) (c .k-max)))
 
 -- the number of a row for u
 row-passes : (w : Transcript) (holders : ℕ) (s : List ℕ) → PassingRow w holders s → (u : ℕ) → 0 < u → u ≤ batch (w .n) (w .t)
@@ -116,22 +122,34 @@ module _ (l : List (List ℕ)) (e : after l .stage ≡ 5) where
         responder : (i : ℕ) → i < length (respondersOf (r .setup .n) (r .responses)) → Member (has (r .responses .responders)) 1 (r .setup .n) (getD (respondersOf (r .setup .n) (r .responses)) i 0)
         responder = all-getD _ (respondersOf (r .setup .n) (r .responses)) (members-all (has (r .responses .responders)) 1 (r .setup .n)) 0
 
-    pub phi-range : IsScalar (phi (accepted l) u k)
+    list-range : IsScalar (phi (accepted l) u k)
     unfolding phi
-    phi-range = scalarAt-range _ _ _ _
+    list-range = scalarAt-range _ _ _ _
 
     run-range : IsScalar (phiOf (r .setup .n) (r .responses) u k)
     unfolding phiOf
     run-range = scalarAt-range _ _ _ _
 
+    -- before the shift both are one number
+    phi-same : phiOf (r .setup .n) (r .responses) u k ≡ phi (accepted l) u k
+    phi-same = generator-unique (phiOf (r .setup .n) (r .responses) u k) (phi (accepted l) u k) run-range list-range (run-verifies ∙ sym list-verifies)
+
     -- the run keeps the number of the list
-    pub kept-is : kept r u k ≡ phi (accepted l) u k
-    unfolding kept transcriptOf transcript
+    pub kept-is : kept r u k ≡ shiftedPhi (accepted l) u k
+    unfolding kept transcriptOf transcript shiftedPhi shiftedPhiOf
     kept-is =
         live .stage .done e .signatures (cell (r .setup .a) u k) (cell-lt (r .setup .a) (batch (r .setup .n) (r .setup .t)) u k (within .u-pos) (within .u-max) (within .k-pos) (within .k-max))
-        ∙ ap₂ (phiOf (r .setup .n) (r .responses)) (cell-u (r .setup .a) u k (within .u-pos) (within .k-pos) (within .k-max)) (cell-k (r .setup .a) u k (within .k-pos) (within .k-max))
-        ∙ generator-unique (phiOf (r .setup .n) (r .responses) u k) (phi (accepted l) u k) run-range phi-range (run-verifies ∙ sym list-verifies)
+        ∙ ap₂ (shiftedPhiOf (r .setup .n) (r .challenges .shift) (r .responses)) (cell-u (r .setup .a) u k (within .u-pos) (within .k-pos) (within .k-max)) (cell-k (r .setup .a) u k (within .k-pos) (within .k-max))
+        ∙ ap₂ plus phi-same (alike .shift-same)
+
+    pub phi-range : IsScalar (shiftedPhi (accepted l) u k)
+    unfolding shiftedPhi
+    phi-range = plus-range (phi (accepted l) u k) (read (accepted l) .shift)
 
     -- the equation, in what the list has
-    pub phi-verifies : raise generator (phi (accepted l) u k) ≡ rightSide (read (accepted l)) u k
-    phi-verifies = list-verifies ∙ equation-same w (read (accepted l)) alike u k within
+    pub phi-verifies : raise generator (shiftedPhi (accepted l) u k) ≡ shiftedSide (read (accepted l)) u k
+    unfolding shiftedPhi
+    phi-verifies =
+        ap (λ (d : Scalar). raise generator (plus (phi (accepted l) u k) d)) (sym (alike .shift-same))
+        ∙ shift-verifies w u k (phi (accepted l) u k) _ list-verifies
+        ∙ equation-same w (read (accepted l)) alike u k within

@@ -12,27 +12,27 @@ use Rattle.lists.specs.TestLaws.{pick-case}
 use Rattle.lists.specs.Members.{All}
 use Rattle.lists.specs.StoreLaws.{stored-from, length-filled}
 use Rattle.sets.specs.Masks.{has, count}
-use Rattle.field.specs.declared.Scalar.{Scalar}
 use Rattle.field.specs.Definitions.{scalar, element, IsElement, identity}
 use Rattle.protocol.specs.Transcript.{Transcript, passes}
 use Rattle.records.specs.Parameters.{mostParties, places, cells, quorum, batch}
 use Rattle.records.specs.Bytes.{byteAt, numberAt, word, sender}
-use Rattle.records.specs.Tags.{Tag, SU, DE, VE, CH, RE}
+use Rattle.records.specs.Tags.{Tag, SU, DE, VE, CH, CS, RE}
 use Rattle.refusals.specs.Refusals.{setupRefusal, dealingRefusal}
 use Rattle.records.specs.RecordLaws.{Bounds, key-max}
 use Rattle.refusals.specs.RefusalLaws.{setup-passed, dealing-passed}
 use Rattle.dealing.specs.declared.Setup.{Setup}
 use Rattle.dealing.specs.declared.Dealings.{Dealings}
 use Rattle.complaint.specs.declared.Complaints.{Complaints}
+use Rattle.response.specs.declared.Challenges.{Challenges}
 use Rattle.response.specs.declared.Responses.{Responses}
 use Rattle.run.specs.declared.Run.{Run}
 use Rattle.arrays.specs.Arrays.{base}
 use Rattle.dealing.specs.Definitions.{noSetup, setupOf, wrongShares}
 use Rattle.run.specs.Runs.{wellFormed, stageOf, transcriptOf}
-use Rattle.response.specs.Definitions.{phiOf}
+use Rattle.response.specs.Definitions.{shiftedPhiOf}
 use Rattle.complaint.specs.Definitions.{blamedBy}
 use Rattle.run.specs.RunLaws.{formed-test}
-use Rattle.promises.specs.Lists.{ofTag, first, some, sentBy, recordOf}
+use Rattle.promises.specs.Lists.{ofTag, first, some, sentBy, recordOf, challengeBy, shiftBy}
 use Rattle.promises.specs.ListLaws.{recordOf-all}
 use Rattle.promises.specs.SenderLaws.{Senders, Slots, Marks, senders-max}
 
@@ -60,10 +60,11 @@ pub record ComplaintsOf (setup : Setup) (dealers : ℕ) (c : Complaints) (l : Li
   pub blamed-is : (i : ℕ) → has (blamedBy (setup .n) c) i ≡ some (λ s. has (numberAt s 4) i) l
   pub founded : All (λ s. (i : ℕ) → has (numberAt s 4) i ≡ true → has dealers i ≡ true) l
 
--- s is the accepted CH; empty before there is one, and then every number is 0
-pub record ChallengesOf (setup : Setup) (kept : List Scalar) (s : List ℕ) : Type 0 where
-  pub size : length kept ≡ cells
-  pub challenge-is : (x : ℕ) → x < setup .a * batch (setup .n) (setup .t) → getD kept x (scalar 0) ≡ scalar (word s 4 x)
+-- l holds the accepted CH, m the accepted CS; before there is one of either every number is 0, and so is the shift
+pub record ChallengesOf (setup : Setup) (e : Challenges) (l m : List (List ℕ)) : Type 0 where
+  pub size : length (e .numbers) ≡ cells
+  pub challenge-is : (x : ℕ) → x < setup .a * batch (setup .n) (setup .t) → getD (e .numbers) x (scalar 0) ≡ challengeBy l m x
+  pub shift-is : e .shift ≡ shiftBy m
 
 -- l holds the accepted RE
 pub record ResponsesOf (setup : Setup) (p : Responses) (l : List (List ℕ)) : Type 0 where
@@ -76,10 +77,10 @@ pub record PassingRow (w : Transcript) (holders : ℕ) (s : List ℕ) : Type 0 w
   pub held : has holders (sender s) ≡ true
   pub passing : (x : ℕ) → x < batch (w .n) (w .t) → passes w (x + 1) (sender s) (scalar (word s 4 x)) ≡ true
 
--- need rows are there, and every φ
+-- need rows are there, and every φ, shifted
 pub record Done (r : Run) : Type 0 where
   pub full : r .responses .count ≡ quorum (r .setup .t) (r .setup .a)
-  pub signatures : (x : ℕ) → x < r .setup .a * batch (r .setup .n) (r .setup .t) → getD (r .signatures) x (scalar 0) ≡ phiOf (r .setup .n) (r .responses) (x / r .setup .a + 1) (x % r .setup .a + 1)
+  pub signatures : (x : ℕ) → x < r .setup .a * batch (r .setup .n) (r .setup .t) → getD (r .signatures) x (scalar 0) ≡ shiftedPhiOf (r .setup .n) (r .challenges .shift) (r .responses) (x / r .setup .a + 1) (x % r .setup .a + 1)
 
 -- n-t dealings end stage 1, n-t complaint rows stage 2; and more than t dealers are in BAD at stage 6 alone
 pub record Counts (stage : ℕ) (setup : Setup) (d : Dealings) (c : Complaints) : Type 0 where
@@ -95,9 +96,9 @@ pub record AtStage (stage : ℕ) (r : Run) (f : Tag → List (List ℕ)) : Type 
   pub stage-pos : 0 < stage
   pub stage-max : stage ≤ 6
   pub counts : Counts stage (r .setup) (r .dealings) (r .complaints)
-  pub early : stage < 4 → (f CH ≡ []) × (f RE ≡ [])
+  pub early : stage < 4 → (f CH ≡ []) × (f CS ≡ []) × (f RE ≡ [])
   pub one-setup : length (f SU) ≡ 1
-  pub challenged : 3 < stage → stage < 6 → length (f CH) ≡ 1
+  pub challenged : 3 < stage → stage < 6 → length (f CH) + length (f CS) ≡ 1
   pub done : stage ≡ 5 → Done r
 
 -- ---- the invariant
@@ -107,7 +108,7 @@ pub record Live (r : Run) (f : Tag → List (List ℕ)) : Type 0 where
   pub setup : SetupOf (r .setup) (first (f SU))
   pub dealings : DealingsOf (r .setup) (r .dealings) (f DE)
   pub complaints : ComplaintsOf (r .setup) (r .dealings .dealers) (r .complaints) (f VE)
-  pub challenges : ChallengesOf (r .setup) (r .challenges) (first (f CH))
+  pub challenges : ChallengesOf (r .setup) (r .challenges) (f CH) (f CS)
   pub responses : ResponsesOf (r .setup) (r .responses) (f RE)
   pub rows : All (PassingRow (transcriptOf r) (r .complaints .holders)) (f RE)
   pub signatures-size : length (r .signatures) ≡ cells

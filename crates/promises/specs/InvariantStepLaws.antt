@@ -2,9 +2,9 @@
 use mathlib.Core.Path.{_≡_, refl, sym, ap, subst, fun-ext, _∙_}
 use mathlib.Core.Bool.{Bool, true, false, _&&_, _||_}
 use mathlib.Core.List.{List, [], _∷_, _++_, append-assoc, append-nil}
-use Prim.Native.Nat.{ℕ, suc, _+_, _-_, _≤_, _<_}
+use Prim.Native.Nat.{ℕ, suc, _+_, _*_, _-_, _≤_, _<_}
 use native.Mathlib.Omega.{arith}
-use lib.ListN.{length}
+use lib.ListN.{length, getD}
 use lib.Dec.{eqb, ltb, leb}
 use borrow.Author.Tests.{eqb-true, eqb-false, ne-eqb, leb-true, ltb-true, ltb-false}
 use Rattle.lists.specs.Tests.{pick}
@@ -13,10 +13,10 @@ use Rattle.lists.specs.MemberLaws.{all-snoc}
 use Rattle.lists.specs.StoreLaws.{length-stored, stored-from, length-filled, getD-filled}
 use Rattle.sets.specs.Masks.{has, count}
 use Rattle.field.specs.Definitions.{scalar}
-use Rattle.records.specs.Parameters.{cells, quorum}
+use Rattle.records.specs.Parameters.{cells, quorum, batch}
 use Rattle.records.specs.Bytes.{byteAt, numberAt, word}
-use Rattle.records.specs.Tags.{Tag, SU, DE, VE, CH, RE, unknown, tagOf}
-use Rattle.refusals.specs.Refusals.{setupRefusal, challengesRefusal}
+use Rattle.records.specs.Tags.{Tag, SU, DE, VE, CH, CS, RE, unknown, tagOf}
+use Rattle.refusals.specs.Refusals.{setupRefusal, challengesRefusal, shiftedRefusal}
 use Rattle.refusals.specs.RefusalLaws.{setup-passed}
 use Rattle.records.specs.RecordLaws.{cells-max, quorum-pos}
 use Rattle.dealing.specs.declared.Setup.{Setup}
@@ -25,19 +25,20 @@ use Rattle.complaint.specs.declared.Complaints.{Complaints}
 use Rattle.run.specs.declared.Run.{Run}
 use Rattle.dealing.specs.Definitions.{noDealings, setupOf, dealingNumber, withDealing}
 use Rattle.complaint.specs.Definitions.{noComplaints, complaintNumber, withComplaint, complaintStage, blamedBy}
-use Rattle.response.specs.Definitions.{transcript, phiOf, responseNumber, withResponse, signaturesOf}
-use Rattle.run.specs.Runs.{noScalars, begun, fresh, stageOf, transcriptOf}
-use Rattle.run.specs.Steps.{afterSetup, afterDealing, afterComplaint, afterChallenges, withRow, finished, afterResponse, takenAt, atStage, handlerAt, refused, answered, handled, stepOf, afterFrom, after}
+use Rattle.response.specs.declared.Challenges.{Challenges}
+use Rattle.response.specs.Definitions.{transcript, noChallenges, challengesFrom, withChallenges, withShifted, responseNumber, withResponse, signaturesOf}
+use Rattle.run.specs.Runs.{setChallenges, noScalars, begun, fresh, stageOf, transcriptOf}
+use Rattle.run.specs.Steps.{afterSetup, afterDealing, afterComplaint, afterChallenges, afterShifted, withRow, finished, afterResponse, takenAt, atStage, handlerAt, refused, answered, handled, stepOf, afterFrom, after}
 use Rattle.run.specs.StepLaws.{stage-case, answered-case}
 use Rattle.run.specs.declared.Reply.{Reply}
 use Rattle.run.specs.declared.Handler.{Handler}
-use Rattle.run.specs.declared.Handler.the-variants.{TakeSetup, TakeDealing, TakeComplaint, TakeChallenges, TakeResponse}
-use Rattle.promises.specs.Lists.{acceptedFrom, accepted, ofTag, first}
+use Rattle.run.specs.declared.Handler.the-variants.{TakeSetup, TakeDealing, TakeComplaint, TakeChallenges, TakeShifted, TakeResponse}
+use Rattle.promises.specs.Lists.{acceptedFrom, accepted, ofTag, first, challengeBy, shiftBy}
 use Rattle.promises.specs.ListLaws.{snoc, more, ofTag-snoc}
-use Rattle.promises.specs.InvariantLaws.{Counts, AtStage, Live, Responding, Invariant, live-bounds, stage-of}
+use Rattle.promises.specs.InvariantLaws.{ChallengesOf, Counts, AtStage, Live, Responding, Invariant, live-bounds, stage-of}
 use Rattle.promises.specs.InvariantPartLaws.{no-dealings, no-complaints, no-responses, dealing-new, dealings-more, complaint-new, complaints-more, complaints-kept, response-new, responses-more}
 
--- a stage that no CH leads to: 1, 2, 3 or 6
+-- a stage that no CH or CS leads to: 1, 2, 3 or 6
 waits : (g : ℕ) → (leb 1 g && (leb g 3 || eqb g 6)) ≡ true → (0 < g) × (g ≤ 6) × (3 < g → g ≡ 6)
 waits g e = go (leb g 3) refl (and-right (leb 1 g) _ e)
   where
@@ -48,7 +49,7 @@ waits g e = go (leb g 3) refl (and-right (leb 1 g) _ e)
     go true d x = let l : g ≤ 3 = leb-true g 3 d in (pos, omega arith, λ m. omega arith)
     go false d x = let six : g ≡ 6 = eqb-true g 6 x in (pos, omega arith, λ m. six)
 
-waiting : (r : Run) (f : Tag → List (List ℕ)) → (f CH ≡ []) × (f RE ≡ []) → length (f SU) ≡ 1 → (stage : ℕ) → (leb 1 stage && (leb stage 3 || eqb stage 6)) ≡ true
+waiting : (r : Run) (f : Tag → List (List ℕ)) → (f CH ≡ []) × (f CS ≡ []) × (f RE ≡ []) → length (f SU) ≡ 1 → (stage : ℕ) → (leb 1 stage && (leb stage 3 || eqb stage 6)) ≡ true
     → Counts stage (r .setup) (r .dealings) (r .complaints) → AtStage stage r f
 waiting r f none one stage e counts =
     let w = waits stage e in
@@ -63,7 +64,7 @@ waiting r f none one stage e counts =
     }
 
 -- stage 4
-at-four : (r : Run) (f : Tag → List (List ℕ)) → length (f SU) ≡ 1 → length (f CH) ≡ 1 → Counts 4 (r .setup) (r .dealings) (r .complaints) → AtStage 4 r f
+at-four : (r : Run) (f : Tag → List (List ℕ)) → length (f SU) ≡ 1 → length (f CH) + length (f CS) ≡ 1 → Counts 4 (r .setup) (r .dealings) (r .complaints) → AtStage 4 r f
 at-four r f one sent counts =
     record {
       stage-pos = omega arith;
@@ -75,25 +76,25 @@ at-four r f one sent counts =
       done = λ d. absurd (omega arith);
     }
 
--- no CH was accepted: the stage is not 4
-quiet : (r : Run) (f : Tag → List (List ℕ)) → Live r f → f CH ≡ [] → Responding r
-quiet r f h none e = absurd (omega (arith, h .stage .challenged (omega arith) (omega arith), ap length none))
+-- no CH and no CS was accepted: the stage is not 4
+quiet : (r : Run) (f : Tag → List (List ℕ)) → Live r f → f CH ≡ [] → f CS ≡ [] → Responding r
+quiet r f h none unshifted e = absurd (omega (arith, h .stage .challenged (omega arith) (omega arith), ap length none, ap length unshifted))
 
 -- ---- SU
 
 setup-live : (s : List ℕ) → setupRefusal s ≡ 0 → Live (afterSetup s) (more SU s (λ g. []))
-unfolding afterSetup setupOf begun noDealings noComplaints noScalars first word numberAt byteAt
+unfolding afterSetup setupOf begun noDealings noComplaints noChallenges noScalars first challengeBy shiftBy word numberAt byteAt
 setup-live s e =
     let b = setup-passed s e .bounds in
     record {
       setup = record { setup-is = refl; admitted = e };
       dealings = no-dealings _;
       complaints = no-complaints _ _;
-      challenges = record { size = length-filled cells (scalar 0); challenge-is = λ x l. getD-filled cells (scalar 0) x };
+      challenges = record { size = length-filled cells (scalar 0); challenge-is = λ x l. getD-filled cells (scalar 0) x; shift-is = refl };
       responses = no-responses _;
       rows = tt;
       signatures-size = length-filled cells (scalar 0);
-      stage = waiting _ _ (refl, refl) refl 1 refl (record {
+      stage = waiting _ _ (refl, refl, refl) refl 1 refl (record {
         dealing = λ z. omega arith;
         dealt = λ z. omega arith;
         complaining = λ z. omega arith;
@@ -118,7 +119,7 @@ dealing-live r s f g e h =
       complaints = complaints-kept (r .setup) (r .dealings .dealers) (r .complaints) s (f VE) (b .n-max) (c .1) (h .complaints);
       challenges = h .challenges;
       responses = h .responses;
-      rows = rw (none .1) tt;
+      rows = rw (none .2) tt;
       signatures-size = h .signatures-size;
       stage = pick-case (λ z. AtStage z (afterDealing r s) (more DE s f)) (eqb (r .dealings .count + 1) (r .setup .n - r .setup .t)) 2 1
           (λ d. at 2 refl (counts 2 (omega arith) (λ z. omega arith) (λ z. eqb-true _ _ d)))
@@ -154,7 +155,7 @@ complaint-live r s f g e h =
       complaints = complaints-more (r .setup) (r .dealings .dealers) (r .complaints) s (f VE) (live-bounds r f h .n-max) (c .0) (c .1) (h .complaints);
       challenges = h .challenges;
       responses = h .responses;
-      rows = rw (none .1) tt;
+      rows = rw (none .2) tt;
       signatures-size = h .signatures-size;
       stage = pick-case (λ z. AtStage z (afterComplaint r s) (more VE s f)) (eqb (r .complaints .count + 1) (r .setup .n - r .setup .t)) _ 2
           (λ d. pick-case (λ z. AtStage z (afterComplaint r s) (more VE s f)) (ltb (r .setup .t) _) 6 3
@@ -189,27 +190,52 @@ counts-past setup d c stage next l m k h =
       many-bad = λ z. omega arith;
     }
 
-challenges-live : (r : Run) (s : List ℕ) (f : Tag → List (List ℕ)) → r .stage ≡ 3 → Live r f → Live (afterChallenges r s) (more CH s f)
-unfolding afterChallenges transcriptOf transcript first
-challenges-live r s f g h =
-    let none = h .stage .early (omega arith) in
+-- at stage 3, with the challenges x of one more record k that is a CH or a CS
+challenged-live : (r : Run) (x : Challenges) (f k : Tag → List (List ℕ)) → r .stage ≡ 3 → Live r f → k SU ≡ f SU → k DE ≡ f DE → k VE ≡ f VE → k RE ≡ f RE
+    → ChallengesOf (r .setup) x (k CH) (k CS) → length (k CH) + length (k CS) ≡ 1 → Live (setChallenges r 4 x) k
+unfolding transcriptOf transcript
+challenged-live r x f k g h su de ve re challenges one =
     record {
-      setup = h .setup;
-      dealings = h .dealings;
-      complaints = h .complaints;
-      challenges = record {
-        size = length-stored (r .challenges) 0 _ _ ∙ h .challenges .size;
-        challenge-is = λ x l. rw (none .0) (stored-from (r .challenges) _ _ (scalar 0) (omega (arith, h .challenges .size, cells-max (live-bounds r f h))) x l);
-      };
-      responses = h .responses;
-      rows = rw (none .1) tt;
+      setup = rw su (h .setup);
+      dealings = rw de (h .dealings);
+      complaints = rw ve (h .complaints);
+      challenges = challenges;
+      responses = rw re (h .responses);
+      rows = rw (re, h .stage .early (omega arith) .2) tt;
       signatures-size = h .signatures-size;
-      stage = at-four _ _ (h .stage .one-setup) (rw (none .0)) (counts-past (r .setup) (r .dealings) (r .complaints) 3 4 (omega arith) (omega arith) (omega arith) (rw g at (h .stage .counts)));
+      stage = at-four _ _ (rw su (h .stage .one-setup)) one (counts-past (r .setup) (r .dealings) (r .complaints) 3 4 (omega arith) (omega arith) (omega arith) (rw g at (h .stage .counts)));
     }
 
-challenges-few : (r : Run) (s : List ℕ) (f : Tag → List (List ℕ)) → r .stage ≡ 3 → Live r f → Responding (afterChallenges r s)
-unfolding afterChallenges
-challenges-few r s f g h e = omega (arith, h .responses .senders .number-is, ap length (h .stage .early (omega arith) .1), quorum-pos (live-bounds r f h))
+-- the challenges of a record, from a place on
+module _ (r : Run) (s : List ℕ) (f : Tag → List (List ℕ)) (from : ℕ) (h : Live r f) where
+  loaded-size : length (challengesFrom (r .setup) (r .challenges) from s) ≡ cells
+  unfolding challengesFrom
+  loaded-size = length-stored (r .challenges .numbers) 0 _ _ ∙ h .challenges .size
+
+  loaded-at : (x : ℕ) → x < r .setup .a * batch (r .setup .n) (r .setup .t) → getD (challengesFrom (r .setup) (r .challenges) from s) x (scalar 0) ≡ scalar (word s from x)
+  unfolding challengesFrom
+  loaded-at = stored-from (r .challenges .numbers) _ _ (scalar 0) (omega (arith, h .challenges .size, cells-max (live-bounds r f h)))
+
+challenges-live : (r : Run) (s : List ℕ) (f : Tag → List (List ℕ)) → r .stage ≡ 3 → Live r f → Live (afterChallenges r s) (more CH s f)
+unfolding afterChallenges withChallenges challengeBy shiftBy first
+challenges-live r s f g h =
+    let none = h .stage .early (omega arith) in
+    challenged-live r (withChallenges (r .setup) (r .challenges) s) f (more CH s f) g h refl refl refl refl
+    (record { size = loaded-size r s f 4 h; challenge-is = λ x l. rw (none .0, none .1) (loaded-at r s f 4 h x l); shift-is = rw (none .1) refl })
+    (rw (none .0, none .1) refl)
+
+-- ---- CS
+
+shifted-live : (r : Run) (s : List ℕ) (f : Tag → List (List ℕ)) → r .stage ≡ 3 → Live r f → Live (afterShifted r s) (more CS s f)
+unfolding afterShifted withShifted challengeBy shiftBy
+shifted-live r s f g h =
+    let none = h .stage .early (omega arith) in
+    challenged-live r (withShifted (r .setup) (r .challenges) s) f (more CS s f) g h refl refl refl refl
+    (record { size = loaded-size r s f 8 h; challenge-is = λ x l. rw (none .0, none .1) (loaded-at r s f 8 h x l); shift-is = rw (none .1) refl })
+    (rw (none .0, none .1) refl)
+
+challenges-few : (r : Run) (x : Challenges) (f : Tag → List (List ℕ)) → r .stage ≡ 3 → Live r f → Responding (setChallenges r 4 x)
+challenges-few r x f g h e = omega (arith, h .responses .senders .number-is, ap length (h .stage .early (omega arith) .2), quorum-pos (live-bounds r f h))
 
 -- ---- RE
 
@@ -229,7 +255,7 @@ row-live r s f g e h =
     }
 
 finished-live : (r : Run) (f : Tag → List (List ℕ)) → r .stage ≡ 4 → r .responses .count ≡ quorum (r .setup .t) (r .setup .a) → Live r f → Live (finished r) f
-unfolding finished transcriptOf transcript signaturesOf phiOf
+unfolding finished transcriptOf transcript signaturesOf
 finished-live r f g e h =
     record {
       setup = h .setup;
@@ -294,7 +320,7 @@ module _ (r : Run) (s : List ℕ) (l : List (List ℕ)) (h : Invariant r l) wher
   stage-keeps g a f = stage-case (Kept l s) g a r s (λ e. f (sym (stage-of r l h) ∙ e)) (λ n. refused-keeps 11 (λ e. absurd (omega arith)))
 
 step-keeps : (r : Run) (s : List ℕ) (l : List (List ℕ)) → Invariant r l → Kept l s (stepOf r s)
-unfolding stepOf handlerAt handled takenAt ofTag
+unfolding stepOf handlerAt handled takenAt ofTag afterChallenges afterShifted
 step-keeps r s l h = go (tagOf s) refl
   where
     f : Tag → List (List ℕ)
@@ -303,16 +329,16 @@ step-keeps r s l h = go (tagOf s) refl
     live : (g : ℕ) → r .stage ≡ suc g → Live r f
     live g e = h .live (omega arith)
 
-    none : (g : ℕ) → r .stage ≡ suc g → suc g < 4 → f CH ≡ []
-    none g e p = live g e .stage .early (omega arith) .0
+    none : (g : ℕ) → r .stage ≡ suc g → suc g < 4 → (f CH ≡ []) × (f CS ≡ [])
+    none g e p = let early = live g e .stage .early (omega arith) in (early .0, early .1)
 
-    both : (k : Tag) (next : Run) → Live next (more k s f) → more k s f CH ≡ [] → Live next (more k s f) × Responding next
-    both k next h none = (h, quiet next (more k s f) h none)
+    both : (k : Tag) (next : Run) → Live next (more k s f) → (more k s f CH ≡ []) × (more k s f CS ≡ []) → Live next (more k s f) × Responding next
+    both k next h none = (h, quiet next (more k s f) h (none .0) (none .1))
 
     go : (k : Tag) → tagOf s ≡ k → Kept l s (handled (handlerAt k (stageOf r)) r s)
     go SU m =
         stage-keeps r s l h SU TakeSetup (λ g. answered-keeps r s l h (setupRefusal s) (afterSetup s)
-        (λ e. rw (m, h .start g) (setup-live s e, quiet _ _ (setup-live s e) refl)))
+        (λ e. rw (m, h .start g) (setup-live s e, quiet _ _ (setup-live s e) refl refl)))
     go DE m =
         stage-keeps r s l h DE TakeDealing (λ g. answered-keeps r s l h (dealingNumber (r .setup) (r .dealings) s) (afterDealing r s)
         (λ e. rw m (both DE _ (dealing-live r s f g e (live 0 g)) (none 0 g (omega arith)))))
@@ -321,7 +347,10 @@ step-keeps r s l h = go (tagOf s) refl
         (λ e. rw m (both VE _ (complaint-live r s f g e (live 1 g)) (none 1 g (omega arith)))))
     go CH m =
         stage-keeps r s l h CH TakeChallenges (λ g. answered-keeps r s l h (challengesRefusal (r .setup .n) (r .setup .t) (r .setup .a) s) (afterChallenges r s)
-        (λ e. rw m (challenges-live r s f g (live 2 g), challenges-few r s f g (live 2 g))))
+        (λ e. rw m (challenges-live r s f g (live 2 g), challenges-few r (withChallenges (r .setup) (r .challenges) s) f g (live 2 g))))
+    go CS m =
+        stage-keeps r s l h CS TakeShifted (λ g. answered-keeps r s l h (shiftedRefusal (r .setup .n) (r .setup .t) (r .setup .a) s) (afterShifted r s)
+        (λ e. rw m (shifted-live r s f g (live 2 g), challenges-few r (withShifted (r .setup) (r .challenges) s) f g (live 2 g))))
     go RE m =
         stage-keeps r s l h RE TakeResponse (λ g. answered-keeps r s l h (responseNumber (r .setup) (r .dealings) (r .complaints) (r .challenges) (r .responses) s) (afterResponse r s)
         (λ e. rw m (response-live r s f g e (live 3 g), response-few r s g (h .responding))))

@@ -1,5 +1,5 @@
--- What a list of records has, read from the bytes of its accepted records alone (document 01, "The run").
-use Prim.Native.Nat.{ℕ, _-_}
+-- What a list of records has, read from the bytes of its accepted records alone (document 01, "The run"; the shift is of document 02, request 2.1).
+use Prim.Native.Nat.{ℕ, _+_, _-_}
 use mathlib.Core.Bool.{Bool, false, not, _&&_, _||_}
 use mathlib.Core.List.{List, [], _∷_}
 use lib.ListN.{length, getD}
@@ -7,11 +7,11 @@ use lib.Dec.{eqb, ltb}
 use Rattle.lists.specs.Tests.{pick}
 use Rattle.sets.specs.Masks.{has, count}
 use Rattle.field.specs.declared.Scalar.{Scalar}
-use Rattle.field.specs.Definitions.{scalar, element}
+use Rattle.field.specs.Definitions.{scalar, element, plus}
 use Rattle.interpolation.specs.Definitions.{party, slot, scalarAt}
 use Rattle.records.specs.Parameters.{quorum}
 use Rattle.records.specs.Bytes.{byteAt, numberAt, word, sender}
-use Rattle.records.specs.Tags.{Tag, SU, DE, VE, CH, RE, code, tagOf}
+use Rattle.records.specs.Tags.{Tag, SU, DE, VE, CH, CS, RE, code, tagOf}
 use Rattle.run.specs.declared.Run.{Run}
 use Rattle.protocol.specs.Transcript.{Transcript}
 use Rattle.arrays.specs.Arrays.{cell}
@@ -50,6 +50,16 @@ unfoldable pub recordOf : ℕ → List (List ℕ) → List ℕ
 recordOf i [] = []
 recordOf i (s ∷ l) = pick (eqb (sender s) i) s (recordOf i l)
 
+-- of the accepted CH and CS, of which there is at most one: challenge x, u outer; those of a CS stand behind its shift
+unfoldable pub challengeBy : List (List ℕ) → List (List ℕ) → ℕ → Scalar
+challengeBy l (s ∷ m) x = scalar (word s 8 x)
+challengeBy l [] x = scalar (word (first l) 4 x)
+
+-- of the accepted CS: δ, which is 0 where there is none
+unfoldable pub shiftBy : List (List ℕ) → Scalar
+shiftBy [] = scalar 0
+shiftBy (s ∷ m) = scalar (word s 4 0)
+
 -- of a list of accepted records:
 module _ (l : List (List ℕ)) where
   -- the accepted dealers
@@ -72,7 +82,7 @@ module _ (l : List (List ℕ)) where
   unfoldable pub qualified : ℕ → Bool
   qualified i = dealer i && not (bad i)
 
-  -- the setup of the accepted SU, QUAL, the commitments of the accepted DE, the challenges of the accepted CH
+  -- the setup of the accepted SU, QUAL, the commitments of the accepted DE, the challenges of the accepted CH or CS, and the shift
   unfoldable pub read : Transcript
   read =
       record {
@@ -82,13 +92,18 @@ module _ (l : List (List ℕ)) where
         key = λ j. element (word (first (ofTag SU l)) 6 j);
         qual = qualified;
         commitment = λ i v. element (word (recordOf i (ofTag DE l)) 4 v);
-        challenge = λ u k. scalar (word (first (ofTag CH l)) 4 (cell (byteAt (first (ofTag SU l)) 4) u k));
+        challenge = λ u k. challengeBy (ofTag CH l) (ofTag CS l) (cell (byteAt (first (ofTag SU l)) 4) u k);
+        shift = shiftBy (ofTag CS l);
       }
 
-  -- φ(u,k): the numbers for u of the accepted RE, interpolated at 1-k
+  -- φ(u,k) before the shift: the numbers for u of the accepted RE, interpolated at 1-k
   unfoldable pub phi : ℕ → ℕ → Scalar
   phi u k =
       scalarAt (λ i. party (sender (getD (ofTag RE l) i []))) (length (ofTag RE l)) (λ i. scalar (word (getD (ofTag RE l) i []) 4 (u - 1))) (slot k)
+
+  -- φ(u,k) + δ modulo q: what is kept and printed for φ(u,k)
+  unfoldable pub shiftedPhi : ℕ → ℕ → Scalar
+  shiftedPhi u k = plus (phi u k) (read .shift)
 
   -- no SU yet
   unfoldable pub unset : Bool
@@ -106,9 +121,9 @@ module _ (l : List (List ℕ)) where
   unfoldable pub stopped : Bool
   stopped = ltb (read .t) (count (read .n) bad)
 
-  -- no CH yet
+  -- no CH and no CS yet
   unfoldable pub unchallenged : Bool
-  unchallenged = eqb (length (ofTag CH l)) 0
+  unchallenged = eqb (length (ofTag CH l) + length (ofTag CS l)) 0
 
   -- fewer than need RE
   unfoldable pub responding : Bool

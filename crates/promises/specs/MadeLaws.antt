@@ -9,10 +9,9 @@ use Rattle.lists.specs.TestLaws.{and-left, pick-same}
 use Rattle.lists.specs.Members.{Distinct}
 use Rattle.sets.specs.Masks.{has, count}
 use Rattle.sets.specs.MemberLaws.{same-members}
-use Rattle.field.specs.Definitions.{scalar}
 use Rattle.records.specs.Parameters.{batch}
-use Rattle.records.specs.Bytes.{word, sender}
-use Rattle.records.specs.Tags.{SU, DE, VE, CH}
+use Rattle.records.specs.Bytes.{sender}
+use Rattle.records.specs.Tags.{SU, DE, VE, CH, CS}
 use Rattle.protocol.specs.Alike.{Alike}
 use Rattle.protocol.specs.Signature.{Sound}
 use Rattle.dealing.specs.declared.Setup.{Setup}
@@ -22,7 +21,7 @@ use Rattle.run.specs.Runs.{wellFormed, stageOf, transcriptOf}
 use Rattle.dealing.specs.Definitions.{setupOf, keyIn}
 use Rattle.run.specs.Steps.{after}
 use Rattle.promises.specs.SenderLaws.{has-pos}
-use Rattle.promises.specs.Lists.{accepted, ofTag, first, dealer, hold, bad, qualified, read, maskFrom}
+use Rattle.promises.specs.Lists.{accepted, ofTag, first, dealer, hold, bad, qualified, read, maskFrom, challengeBy}
 use Rattle.promises.specs.ListLaws.{some-all}
 use Rattle.promises.specs.PlaceLaws.{cell-lt}
 use Rattle.complaint.specs.Definitions.{blamedBy, maskBy}
@@ -96,7 +95,8 @@ module _ (l : List (List ℕ)) (p : 0 < after l .stage) where
             made-live .dealings .slots i v p m (sym (made-live .dealings .senders .mask-is i) ∙ and-left (has (after l .dealings .dealers) i) _ e);
         challenge-same = λ u k p m c d.
             made-live .challenges .challenge-is (cell (after l .setup .a) u k) (cell-lt (after l .setup .a) (batch (after l .setup .n) (after l .setup .t)) u k p m c d)
-            ∙ ap (λ (x : ℕ). scalar (word (first (ofTag CH (accepted l))) 4 (cell x u k))) (setup-same (λ z. z .a));
+            ∙ ap (λ (x : ℕ). challengeBy (ofTag CH (accepted l)) (ofTag CS (accepted l)) (cell x u k)) (setup-same (λ z. z .a));
+        shift-same = made-live .challenges .shift-is;
       }
 
   -- ---- the numbers of records, by stage

@@ -15,8 +15,8 @@ use Rattle.sets.specs.MemberLaws.{members-cong}
 use Rattle.field.specs.declared.Element.{Element}
 use Rattle.field.specs.Definitions.{generator, product, raise}
 use Rattle.records.specs.Parameters.{batch}
-use Rattle.protocol.specs.Transcript.{nonce}
-use Rattle.protocol.specs.AlikeLaws.{nonce-same}
+use Rattle.protocol.specs.Transcript.{shiftedNonce}
+use Rattle.protocol.specs.AlikeLaws.{shifted-same}
 use Rattle.response.specs.Definitions.{transcript}
 use Rattle.run.specs.Runs.{fresh, stageOf, transcriptOf, kept}
 use Rattle.run.specs.Steps.{after}
@@ -72,8 +72,8 @@ module _ (l : List (List ℕ)) where
       let k = x % a + 1 in
       let place = place-at (read (accepted l)) x (omega (arith, live-bounds (after l) _ (made-live l p) .a-pos, h .a-same)) (omega arith) in
       ap₂ _++_ (signed-lines e x (omega arith))
-      (ap (λ (a : ℕ). sigLine (x / a + 1) (x % a + 1) (nonce (transcriptOf (after l)) (x / a + 1) (x % a + 1)) (kept (after l) (x / a + 1) (x % a + 1))) (h .a-same)
-      ∙ ap₂ (sigLine u k) (nonce-same (transcriptOf (after l)) (read (accepted l)) h u k) (kept-is l e u k place))
+      (ap (λ (a : ℕ). sigLine (x / a + 1) (x % a + 1) (shiftedNonce (transcriptOf (after l)) (x / a + 1) (x % a + 1)) (kept (after l) (x / a + 1) (x % a + 1))) (h .a-same)
+      ∙ ap₂ (sigLine u k) (shifted-same (transcriptOf (after l)) (read (accepted l)) h u k) (kept-is l e u k place))
 
   signatures-are : pick (eqb (stageOf (after l)) 5) (signatureLines (after l) (after l .setup .a * batch (after l .setup .n) (after l .setup .t))) []
       ≡ pick (eqb (stageBy (accepted l)) 5) (signedLines (accepted l) (read (accepted l) .a * batch (read (accepted l) .n) (read (accepted l) .t))) []
@@ -105,14 +105,14 @@ pub page-is : (log : List ℕ) → reportOf log ≡ pick (ltb longest (length lo
 unfolding reportOf runOf
 page-is log = ap (λ (c : List ℕ). pick (ltb longest (length log)) (line longWord []) (refusalLines 1 fresh (recordsOf log) ++ c)) (closing-is (recordsOf log))
 
--- a line `sig u k R φ` prints `nonce (transcriptOf (runOf log)) u k` and `kept (runOf log) u k`: 4^φ = R × S^e(u,k)
+-- a line `sig u k R φ` prints `shiftedNonce (transcriptOf (runOf log)) u k` and `kept (runOf log) u k`: 4^φ = R × S^e(u,k)
 pub printed-signed : (log : List ℕ) → runOf log .stage ≡ 5 → (u k : ℕ) → Place (recordsOf log) u k
     → raise generator (kept (runOf log) u k)
-    ≡ product (nonce (transcriptOf (runOf log)) u k) (raise (read (accepted (recordsOf log)) .key 0) (read (accepted (recordsOf log)) .challenge u k))
+    ≡ product (shiftedNonce (transcriptOf (runOf log)) u k) (raise (read (accepted (recordsOf log)) .key 0) (read (accepted (recordsOf log)) .challenge u k))
 unfolding runOf
 printed-signed log e u k p =
     let l = recordsOf log in
     let s = demand-3 l e .1 u k p in
     ap (raise generator) (s .keeps) ∙ s .verifies
     ∙ ap (λ (v : Element). product v (raise (read (accepted l) .key 0) (read (accepted l) .challenge u k)))
-    (sym (nonce-same (transcriptOf (after l)) (read (accepted l)) (made-alike l (omega arith)) u k))
+    (sym (shifted-same (transcriptOf (after l)) (read (accepted l)) (made-alike l (omega arith)) u k))

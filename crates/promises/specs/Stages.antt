@@ -2,12 +2,12 @@
 use mathlib.Core.Path.{_≡_, refl, ap₂}
 use mathlib.Core.Bool.{true, false}
 use mathlib.Core.List.{List}
-use Prim.Native.Nat.{ℕ, zero, suc, _-_, _<_}
+use Prim.Native.Nat.{ℕ, zero, suc, _+_, _-_, _<_}
 use native.Mathlib.Omega.{arith}
 use lib.ListN.{length}
 use borrow.Author.Tests.{lt-ltb, le-ltb, ne-eqb}
 use Rattle.records.specs.Parameters.{quorum}
-use Rattle.records.specs.Tags.{Tag, SU, DE, VE, CH, RE}
+use Rattle.records.specs.Tags.{Tag, SU, DE, VE, CH, CS, RE}
 use Rattle.response.specs.Definitions.{transcript}
 use Rattle.run.specs.Runs.{transcriptOf}
 use Rattle.run.specs.Steps.{after}
@@ -60,11 +60,11 @@ module _ (l : List (List ℕ)) where
 
     no-challenges : after l .stage ≡ 3 → unchallenged (accepted l) ≡ true
     unfolding unchallenged
-    no-challenges e = rw (made-live l p .stage .early (omega arith) .0)
+    no-challenges e = let early = made-live l p .stage .early (omega arith) in rw (early .0, early .1)
 
     challenged : 3 < after l .stage → after l .stage < 6 → unchallenged (accepted l) ≡ false
     unfolding unchallenged
-    challenged m k = ne-eqb (number CH) 0 (λ e. omega (arith, made-live l p .stage .challenged m k))
+    challenged m k = ne-eqb (number CH + number CS) 0 (λ e. omega (arith, made-live l p .stage .challenged m k))
 
     needed : quorum (after l .setup .t) (after l .setup .a) ≡ need
     unfolding transcriptOf transcript
