@@ -1,4 +1,5 @@
--- The worked log of document 01 and its cases A to L, one list with the expected answers, and one fact over it. Assumes nothing.
+-- The worked log of document 01 and its cases A to L, and those of the shift of document 02, one list with the expected answers, and one fact over it.
+-- Assumes nothing.
 use Prim.Native.Nat.{ℕ, _+_, _/_, _%_}
 use mathlib.Core.Path.{_≡_, refl}
 use mathlib.Core.Bool.{Bool}
@@ -8,7 +9,7 @@ use Rattle.sets.specs.Masks.{has, members}
 use Rattle.field.specs.Definitions.{scalar, isElement, inverse}
 use Rattle.interpolation.specs.Definitions.{weight}
 use Rattle.records.specs.Tags.{letterC, letterD, letterE, letterH, letterR, letterS, letterU, letterV}
-use Rattle.protocol.specs.Transcript.{nonce}
+use Rattle.protocol.specs.Transcript.{shiftedNonce}
 use Rattle.run.specs.declared.Run.{Run}
 use Rattle.run.specs.Runs.{transcriptOf, kept}
 use Rattle.run.specs.Steps.{stepOf, after}
@@ -37,6 +38,10 @@ complaint j m = letterV ∷ letterE ∷ j ∷ 0 ∷ four m
 challenges : List ℕ → List ℕ
 challenges l = letterC ∷ letterH ∷ 0 ∷ 0 ∷ fours l
 
+-- a shift before the challenges
+shifted : ℕ → List ℕ → List ℕ
+shifted d l = letterC ∷ letterS ∷ 0 ∷ 0 ∷ fours (d ∷ l)
+
 response : ℕ → List ℕ → List ℕ
 response j l = letterR ∷ letterE ∷ j ∷ 0 ∷ fours l
 
@@ -57,8 +62,12 @@ held x y m = dealt x y ++ (complaint 2 m ∷ complaint 3 0 ∷ complaint 4 0 ∷
 challenged : ℕ → ℕ → ℕ → List (List ℕ)
 challenged x y m = held x y m ++ (challenges (1 ∷ 2 ∷ []) ∷ [])
 
+-- the first log up to the complaint rows, then s, and the response rows
+signedBy : List ℕ → List (List ℕ)
+signedBy s = held 1 4 0 ++ (s ∷ response 2 (10 ∷ 22 ∷ []) ∷ response 3 (13 ∷ 28 ∷ []) ∷ [])
+
 worked : List (List ℕ)
-worked = challenged 1 4 0 ++ (response 2 (10 ∷ 22 ∷ []) ∷ response 3 (13 ∷ 28 ∷ []) ∷ [])
+worked = signedBy (challenges (1 ∷ 2 ∷ []))
 
 -- ---- what is said of them
 
@@ -66,7 +75,7 @@ worked = challenged 1 4 0 ++ (response 2 (10 ∷ 22 ∷ []) ∷ response 3 (13 �
 said : Run → List (List ℕ)
 said r =
     members 4 (has (setsOf r .hold)) ∷ members 4 (has (setsOf r .qual)) ∷ members 4 (has (setsOf r .bad))
-    ∷ (nonce (transcriptOf r) 1 1 .0 ∷ kept r 1 1 .0 ∷ []) ∷ (nonce (transcriptOf r) 2 1 .0 ∷ kept r 2 1 .0 ∷ []) ∷ (r .stage ∷ []) ∷ []
+    ∷ (shiftedNonce (transcriptOf r) 1 1 .0 ∷ kept r 1 1 .0 ∷ []) ∷ (shiftedNonce (transcriptOf r) 2 1 .0 ∷ kept r 2 1 .0 ∷ []) ∷ (r .stage ∷ []) ∷ []
 
 -- the answer to a record after a list
 answer : List (List ℕ) → List ℕ → List ℕ
@@ -87,6 +96,16 @@ workedPage =
     ∷ 98 ∷ 97 ∷ 100 ∷ 32 ∷ 45 ∷ 10
     ∷ 115 ∷ 105 ∷ 103 ∷ 32 ∷ 49 ∷ 32 ∷ 49 ∷ 32 ∷ 54 ∷ 52 ∷ 32 ∷ 52 ∷ 10
     ∷ 115 ∷ 105 ∷ 103 ∷ 32 ∷ 50 ∷ 32 ∷ 49 ∷ 32 ∷ 54 ∷ 53 ∷ 53 ∷ 51 ∷ 54 ∷ 32 ∷ 49 ∷ 48 ∷ 10
+    ∷ 101 ∷ 110 ∷ 100 ∷ 32 ∷ 53 ∷ 10 ∷ []
+
+-- the page of the first log with a shift of 5: R × 4^5 and φ + 5
+shiftedPage : List ℕ
+shiftedPage =
+    104 ∷ 111 ∷ 108 ∷ 100 ∷ 32 ∷ 50 ∷ 32 ∷ 51 ∷ 32 ∷ 52 ∷ 10
+    ∷ 113 ∷ 117 ∷ 97 ∷ 108 ∷ 32 ∷ 49 ∷ 32 ∷ 50 ∷ 32 ∷ 51 ∷ 10
+    ∷ 98 ∷ 97 ∷ 100 ∷ 32 ∷ 45 ∷ 10
+    ∷ 115 ∷ 105 ∷ 103 ∷ 32 ∷ 49 ∷ 32 ∷ 49 ∷ 32 ∷ 54 ∷ 53 ∷ 53 ∷ 51 ∷ 54 ∷ 32 ∷ 57 ∷ 10
+    ∷ 115 ∷ 105 ∷ 103 ∷ 32 ∷ 50 ∷ 32 ∷ 49 ∷ 32 ∷ 54 ∷ 55 ∷ 49 ∷ 48 ∷ 56 ∷ 56 ∷ 54 ∷ 52 ∷ 32 ∷ 49 ∷ 53 ∷ 10
     ∷ 101 ∷ 110 ∷ 100 ∷ 32 ∷ 53 ∷ 10 ∷ []
 
 -- ---- the cases: what is computed, and what document 01 says
@@ -129,9 +148,29 @@ cases =
       said (after (held 2 5 6)),
       (2 ∷ 3 ∷ 4 ∷ []) ∷ (1 ∷ []) ∷ (2 ∷ 3 ∷ []) ∷ (1 ∷ 0 ∷ []) ∷ (1 ∷ 0 ∷ []) ∷ (6 ∷ []) ∷ [],
     )
+    -- document 02, request 2.1: the first log with CS in place of CH. A shift of 5; a shift of 0, which prints the first page; a shift of q-1, with
+    -- R / 4 and φ - 1
+    ∷ (page (signedBy (shifted 5 (1 ∷ 2 ∷ []))) ++ page (signedBy (shifted 0 (1 ∷ 2 ∷ []))), shiftedPage ∷ workedPage ∷ [])
+    ∷ (
+      said (after (signedBy (shifted 500000002 (1 ∷ 2 ∷ [])))),
+      (2 ∷ 3 ∷ 4 ∷ []) ∷ (1 ∷ 2 ∷ 3 ∷ []) ∷ [] ∷ (16 ∷ 3 ∷ []) ∷ (16384 ∷ 9 ∷ []) ∷ (5 ∷ []) ∷ [],
+    )
+    -- its refusals in their order: CT is no tag (1); a CS of two bytes before the challenges are due, after a CH, and a CH after a CS (11); a CS as long as
+    -- a CH with a reserved byte not 0 (2); such a byte beside a shift of q (3); a shift of q, and a last challenge of q (6)
+    ∷ (
+      answer (held 1 4 0) (letterC ∷ 84 ∷ 0 ∷ 0 ∷ fours (5 ∷ 1 ∷ 2 ∷ []))
+          ∷ answer (dealt 1 4) (letterC ∷ letterS ∷ [])
+          ∷ answer (challenged 1 4 0) (shifted 5 (1 ∷ 2 ∷ []))
+          ∷ answer (held 1 4 0 ++ (shifted 5 (1 ∷ 2 ∷ []) ∷ [])) (challenges (1 ∷ 2 ∷ []))
+          ∷ answer (held 1 4 0) (letterC ∷ letterS ∷ 1 ∷ 0 ∷ fours (5 ∷ 1 ∷ []))
+          ∷ answer (held 1 4 0) (letterC ∷ letterS ∷ 0 ∷ 1 ∷ fours (500000003 ∷ 1 ∷ 2 ∷ []))
+          ∷ answer (held 1 4 0) (shifted 500000003 (1 ∷ 2 ∷ []))
+          ∷ answer (held 1 4 0) (shifted 5 (1 ∷ 500000003 ∷ [])) ∷ [],
+      (1 ∷ []) ∷ (11 ∷ []) ∷ (11 ∷ []) ∷ (11 ∷ []) ∷ (2 ∷ []) ∷ (3 ∷ []) ∷ (6 ∷ []) ∷ (6 ∷ []) ∷ [],
+    )
     ∷ []
 
--- every case comes out as document 01 says
+-- every case comes out as the documents say
 computed : map (λ c. c .0) cases ≡ map (λ c. c .1) cases
-unfolding opened four fours setup dealing complaint challenges response su dealt held challenged said answer test cases worked page workedPage
+unfolding opened four fours setup dealing complaint challenges shifted response su dealt held challenged signedBy said answer test cases worked page workedPage shiftedPage
 computed = refl

@@ -10,20 +10,20 @@ use Rattle.field.specs.Definitions as F
 use Rattle.interpolation.specs.Definitions.{point, factor, weight, scalarAt, elementAt, party, slot, committedPoint}
 use Rattle.records.specs.Parameters.{inBounds, quorum, batch}
 use Rattle.records.specs.Bytes.{byteAt, numberAt, word}
-use Rattle.records.specs.Tags.{tagOf, setupLength, dealingLength, complaintLength, challengesLength, responseLength, sharesFrom}
-use Rattle.refusals.specs.Refusals.{setupRefusal, headRefusal, dealingRefusal, maskFits, complaintRefusal, challengesRefusal, responseRefusal}
-use Rattle.protocol.specs.Transcript.{dealingAt, validShare, coefficient, keyAt, combinedAt, nonce, challengeAt, responseAt, passes, exponent, productOver, dealerFactor}
+use Rattle.records.specs.Tags.{tagOf, setupLength, dealingLength, complaintLength, challengesLength, shiftedLength, responseLength, sharesFrom}
+use Rattle.refusals.specs.Refusals.{setupRefusal, headRefusal, dealingRefusal, maskFits, complaintRefusal, scalarsRefusal, challengesRefusal, shiftedRefusal, responseRefusal}
+use Rattle.protocol.specs.Transcript.{dealingAt, validShare, coefficient, keyAt, combinedAt, nonce, shiftedNonce, challengeAt, responseAt, passes, exponent, productOver, dealerFactor}
 use Rattle.arrays.specs.Arrays.{base, cell}
 use Rattle.dealing.specs.Definitions.{noSetup, noDealings, setupOf, dealingNumber, wrongShares, withDealing, mayBlame, keyIn}
 use Rattle.complaint.specs.Definitions.{noComplaints, complaintNumber, withComplaint, complaintStage, maskBy, blamedBy, unblamed}
-use Rattle.response.specs.Definitions.{noResponses, phiOf, responseNumber, withResponse, transcript, signaturesOf}
+use Rattle.response.specs.Definitions.{noChallenges, challengesFrom, withChallenges, withShifted, noResponses, phiOf, shiftedPhiOf, responseNumber, withResponse, transcript, signaturesOf}
 use Rattle.run.specs.Runs.{noScalars, begun, fresh, wellFormed, stageOf, transcriptOf, kept}
 use Rattle.answers.specs.Answers.{setsOf, unblamedOf, badOf, noSets, keptSets}
 use Rattle.log.specs.Cutting.{lengthAt, lengthOf, whole, cutFrom, recordsOf, runOf}
 use Rattle.text.specs.Lines.{decimalTo, decimal, field, fields, line, setText, setLine}
 use Rattle.closing.specs.Closing.{signatureLine, signatureLines, closing}
 use Rattle.log.specs.Report.{refusalLine, refusalLines, reportOf}
-use Rattle.run.specs.Steps.{afterSetup, afterDealing, afterComplaint, afterChallenges, withRow, finished, afterResponse, takenAt, atStage, handlerAt, handled, stepOf, afterFrom, after}
+use Rattle.run.specs.Steps.{afterSetup, afterDealing, afterComplaint, afterChallenges, afterShifted, withRow, finished, afterResponse, takenAt, atStage, handlerAt, handled, stepOf, afterFrom, after}
 
 -- `unfolding opened` opens what this line names
 unfoldable pub opened : Bool
@@ -36,18 +36,18 @@ unfolding flatten
     point factor weight scalarAt elementAt party slot committedPoint
     inBounds quorum batch
     byteAt numberAt word
-    tagOf setupLength dealingLength complaintLength challengesLength responseLength sharesFrom
-    setupRefusal headRefusal dealingRefusal maskFits complaintRefusal challengesRefusal responseRefusal
-    dealingAt validShare coefficient keyAt combinedAt nonce challengeAt responseAt passes exponent productOver dealerFactor
+    tagOf setupLength dealingLength complaintLength challengesLength shiftedLength responseLength sharesFrom
+    setupRefusal headRefusal dealingRefusal maskFits complaintRefusal scalarsRefusal challengesRefusal shiftedRefusal responseRefusal
+    dealingAt validShare coefficient keyAt combinedAt nonce shiftedNonce challengeAt responseAt passes exponent productOver dealerFactor
     base cell
     noSetup noDealings setupOf dealingNumber wrongShares withDealing mayBlame keyIn
     noComplaints complaintNumber withComplaint complaintStage maskBy blamedBy unblamed
-    noResponses phiOf responseNumber withResponse transcript signaturesOf
+    noChallenges challengesFrom withChallenges withShifted noResponses phiOf shiftedPhiOf responseNumber withResponse transcript signaturesOf
     noScalars begun fresh wellFormed stageOf transcriptOf kept
     setsOf unblamedOf badOf noSets keptSets
     lengthAt lengthOf whole cutFrom recordsOf runOf
     decimalTo decimal field fields line setText setLine
     signatureLine signatureLines closing
     refusalLine refusalLines reportOf
-    afterSetup afterDealing afterComplaint afterChallenges withRow finished afterResponse takenAt atStage handlerAt handled stepOf afterFrom after
+    afterSetup afterDealing afterComplaint afterChallenges afterShifted withRow finished afterResponse takenAt atStage handlerAt handled stepOf afterFrom after
 opened = true

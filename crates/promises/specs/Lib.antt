@@ -13,4 +13,5 @@ pub mod FinishedLaws
 pub mod Demand3
 pub mod Answers
 pub mod Pages
+pub mod Shifts
 pub mod Complaints
