@@ -1,5 +1,5 @@
 //! The program `second`: prints reports, makes logs and requests, answers requests.
-//! Written from document 01 alone.
+//! Written from documents 01 and 02 alone.
 
 use second::coverage::Coverage;
 use second::generator::calls::all_streams;

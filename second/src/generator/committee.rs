@@ -60,6 +60,11 @@ pub fn as_bytes(params: Params) -> (u8, u8, u8) {
     (params.n as u8, params.t as u8, params.a as u8)
 }
 
+/// The CS with the challenges of a CH.
+pub fn with_shift(ch: &[u8], shift: u32) -> Vec<u8> {
+    [Tag::Cs.letters(), &ch[2..4], &shift.to_be_bytes(), &ch[4..]].concat()
+}
+
 impl Committee {
     pub fn random(params: Params, rng: &mut Rng) -> Committee {
         Committee {
@@ -110,6 +115,10 @@ impl Committee {
         let challenges = as_numbers(&random_scalars(count, rng));
         let numbers = challenges.iter().flat_map(|number| number.to_be_bytes());
         Tag::Ch.letters().iter().copied().chain([0, 0]).chain(numbers).collect()
+    }
+
+    pub fn cs(&self, shift: Scalar, rng: &mut Rng) -> Vec<u8> {
+        with_shift(&self.ch(rng), shift.number())
     }
 
     pub fn re(&self, run: &Run, j: Party) -> Vec<u8> {

@@ -3,7 +3,6 @@
 
 use super::draft::Draft;
 use super::spoil;
-use crate::records::Tag;
 use crate::refusal::Refusal;
 use crate::rng::Rng;
 use crate::run::Stage;
@@ -55,8 +54,7 @@ pub fn completed(mut draft: Draft, rng: &mut Rng) -> Vec<u8> {
 
 /// A record of each tag that the stage does not take.
 pub fn add_every_alien(draft: &mut Draft, rng: &mut Rng) {
-    let taken = draft.run.stage.takes();
-    for tag in Tag::ALL.into_iter().filter(|&tag| Some(tag) != taken) {
+    for tag in draft.alien_tags() {
         let record = spoil::alien(draft, tag, rng);
         draft.refuse(&record, Refusal::Stage);
     }

@@ -3,14 +3,17 @@
 //! and a different answer stops the generator.
 
 use super::bytes::put;
-use super::committee::{random_params, Committee};
+use super::committee::{random_params, random_scalar, Committee};
 use crate::arith::Scalar;
 use crate::params::{Params, Party};
 use crate::records::Tag;
 use crate::refusal::Refusal;
 use crate::rng::Rng;
-use crate::run::{Run, Stage};
+use crate::run::Run;
 use std::collections::BTreeSet;
+
+/// The tags of document 01.
+pub const FIRST_TAGS: [Tag; 5] = [Tag::Su, Tag::De, Tag::Ve, Tag::Ch, Tag::Re];
 
 pub struct Draft {
     pub committee: Committee,
@@ -26,6 +29,8 @@ pub struct Draft {
     pub silent: BTreeSet<Party>,
     /// How often, of a hundred, a refused record comes before an accepted one.
     pub noise: u32,
+    /// The tags of its records, refused ones among them.
+    pub tags: &'static [Tag],
 }
 
 impl Draft {
@@ -43,6 +48,7 @@ impl Draft {
             wrong: BTreeSet::new(),
             silent: BTreeSet::new(),
             noise: 0,
+            tags: &FIRST_TAGS,
         }
     }
 
@@ -76,17 +82,33 @@ impl Draft {
         self
     }
 
+    /// The draft's tags that the stage of the run takes.
+    pub fn taken_tags(&self) -> Vec<Tag> {
+        let taken = self.run.stage.takes();
+        self.tags.iter().copied().filter(|tag| taken.contains(tag)).collect()
+    }
+
+    /// The draft's tags that it does not take.
+    pub fn alien_tags(&self) -> Vec<Tag> {
+        let taken = self.run.stage.takes();
+        self.tags.iter().copied().filter(|tag| !taken.contains(tag)).collect()
+    }
+
     /// The next good record for the stage of the run.
     pub fn next_record(&self, rng: &mut Rng) -> Vec<u8> {
-        match self.run.stage {
-            Stage::Fresh => self.committee.su(),
-            Stage::Dealing => self.dealing(self.dealers[self.run.dealings.len()], rng),
-            Stage::Complaining => self.complaint(self.holders[self.run.complaints.len()]),
-            Stage::Challenging => self.committee.ch(rng),
-            Stage::Responding => {
-                self.committee.re(&self.run, self.responders[self.run.responses.len()])
-            }
-            Stage::Done | Stage::Failed => panic!("no record is taken at the end"),
+        let tag = self.run.stage.takes().first().expect("no record is taken at the end");
+        self.good_record(*tag, rng)
+    }
+
+    /// A good record of a tag that the stage of the run takes.
+    pub fn good_record(&self, tag: Tag, rng: &mut Rng) -> Vec<u8> {
+        match tag {
+            Tag::Su => self.committee.su(),
+            Tag::De => self.dealing(self.dealers[self.run.dealings.len()], rng),
+            Tag::Ve => self.complaint(self.holders[self.run.complaints.len()]),
+            Tag::Ch => self.committee.ch(rng),
+            Tag::Cs => self.committee.cs(random_scalar(rng), rng),
+            Tag::Re => self.committee.re(&self.run, self.responders[self.run.responses.len()]),
         }
     }
 
@@ -122,7 +144,7 @@ impl Draft {
     }
 
     pub fn at_end(&self) -> bool {
-        self.run.stage.takes().is_none()
+        self.run.stage.takes().is_empty()
     }
 
     /// The length of a record of this tag in this committee.

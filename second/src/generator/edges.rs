@@ -4,7 +4,7 @@
 
 use super::course::{add_every_alien, completed};
 use super::document::{self, record};
-use super::draft::Draft;
+use super::draft::{Draft, FIRST_TAGS};
 use super::log_set::LogSet;
 use super::spoil;
 use crate::arith::{Element, P, Q};
@@ -107,9 +107,9 @@ pub fn cut_logs(gathered: &mut LogSet, rng: &mut Rng) {
 /// The beginnings of records to break off after.
 fn cut_tails(draft: &Draft, rng: &mut Rng) -> Vec<Vec<u8>> {
     let mut tails = Vec::new();
-    for tag in Tag::ALL {
-        let taken = draft.run.stage.takes() == Some(tag);
-        let whole = if taken { draft.next_record(rng) } else { spoil::alien(draft, tag, rng) };
+    for &tag in draft.tags {
+        let taken = draft.taken_tags().contains(&tag);
+        let whole = if taken { draft.good_record(tag, rng) } else { spoil::alien(draft, tag, rng) };
         let any = rng.between(2, whole.len() as u32 - 1) as usize;
         let mut lengths = match (taken, tag) {
             (true, Tag::Su) => vec![1, 2, 3, 4, 5, 6, 9, whole.len() - 1],
@@ -157,7 +157,7 @@ pub fn senseless_logs(gathered: &mut LogSet, rng: &mut Rng) {
         gathered.add("senseless-text", text.as_bytes().to_vec());
     }
     gathered.add_many("senseless-bytes", 4, |index| rng.bytes(1 + 40 * index));
-    for tag in Tag::ALL {
+    for tag in FIRST_TAGS {
         gathered.add("senseless-after-tag", [tag.letters().as_slice(), &rng.bytes(300)].concat());
     }
     for stage in Stage::ALL {
