@@ -9,6 +9,7 @@ use crate::run::Run;
 use crate::weights::WeightTable;
 use crate::writers::{write_de, write_re, write_su, write_ve};
 
+#[derive(Clone)]
 pub struct Committee {
     pub params: Params,
     /// s.
@@ -61,7 +62,7 @@ pub fn as_bytes(params: Params) -> (u8, u8, u8) {
 }
 
 /// The CS with the challenges of a CH.
-pub fn with_shift(ch: &[u8], shift: u32) -> Vec<u8> {
+pub fn as_cs(ch: &[u8], shift: u32) -> Vec<u8> {
     [Tag::Cs.letters(), &ch[2..4], &shift.to_be_bytes(), &ch[4..]].concat()
 }
 
@@ -118,7 +119,7 @@ impl Committee {
     }
 
     pub fn cs(&self, shift: Scalar, rng: &mut Rng) -> Vec<u8> {
-        with_shift(&self.ch(rng), shift.number())
+        as_cs(&self.ch(rng), shift.number())
     }
 
     pub fn re(&self, run: &Run, j: Party) -> Vec<u8> {

@@ -15,6 +15,7 @@ use std::collections::BTreeSet;
 /// The tags of document 01.
 pub const FIRST_TAGS: [Tag; 5] = [Tag::Su, Tag::De, Tag::Ve, Tag::Ch, Tag::Re];
 
+#[derive(Clone)]
 pub struct Draft {
     pub committee: Committee,
     pub run: Run,
@@ -31,6 +32,8 @@ pub struct Draft {
     pub noise: u32,
     /// The tags of its records, refused ones among them.
     pub tags: &'static [Tag],
+    /// The shift that the challenges are given with; CH gives them where there is none.
+    pub shift: Option<Scalar>,
 }
 
 impl Draft {
@@ -49,6 +52,7 @@ impl Draft {
             silent: BTreeSet::new(),
             noise: 0,
             tags: &FIRST_TAGS,
+            shift: None,
         }
     }
 
@@ -82,6 +86,18 @@ impl Draft {
         self
     }
 
+    /// CS is among the refused records too.
+    pub fn with_every_tag(mut self) -> Draft {
+        self.tags = &Tag::ALL;
+        self
+    }
+
+    /// CS gives the challenges with this shift, and is among the refused records.
+    pub fn with_shift(mut self, shift: Scalar) -> Draft {
+        self.shift = Some(shift);
+        self.with_every_tag()
+    }
+
     /// The draft's tags that the stage of the run takes.
     pub fn taken_tags(&self) -> Vec<Tag> {
         let taken = self.run.stage.takes();
@@ -96,8 +112,11 @@ impl Draft {
 
     /// The next good record for the stage of the run.
     pub fn next_record(&self, rng: &mut Rng) -> Vec<u8> {
-        let tag = self.run.stage.takes().first().expect("no record is taken at the end");
-        self.good_record(*tag, rng)
+        match (self.run.stage.takes(), self.shift) {
+            ([Tag::Ch, Tag::Cs], Some(shift)) => self.committee.cs(shift, rng),
+            ([tag, ..], _) => self.good_record(*tag, rng),
+            ([], _) => panic!("no record is taken at the end"),
+        }
     }
 
     /// A good record of a tag that the stage of the run takes.
