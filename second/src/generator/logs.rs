@@ -1,5 +1,7 @@
 //! Every kind of log: those of document 01, committees that run their course
-//! with and without faults, and (in `edges`) logs at the limits of the format.
+//! with and without faults, logs at the limits of the format (in `edges`), and
+//! logs with CS (in `shifts` and `shift_edges`). New kinds stand last, so that
+//! the others keep their places and bytes.
 
 use super::committee::random_params;
 use super::course::{completed, with_every_fault};
@@ -7,6 +9,7 @@ use super::document;
 use super::draft::Draft;
 use super::edges;
 use super::log_set::{LogSet, NamedLog};
+use super::{shift_edges, shifts};
 use crate::params::Params;
 use crate::rng::Rng;
 use crate::run::Stage;
@@ -30,6 +33,14 @@ pub fn all_logs(seed: u64) -> Vec<NamedLog> {
         edges::size_logs,
         edges::flood_logs,
         edges::changed_logs,
+        shifts::complete_logs,
+        shifts::pair_logs,
+        shifts::refused_logs,
+        shifts::later_logs,
+        shift_edges::stage_logs,
+        shift_edges::cut_logs,
+        shift_edges::length_logs,
+        shift_edges::senseless_logs,
     ];
     for group in groups {
         group(&mut gathered, &mut rng);
