@@ -16,7 +16,8 @@ const USAGE: &str = "usage:
   second generate DIR [--seed N]        write logs
   second requests DIR [--seed N]        write streams of writer requests
   second write < REQUESTS               answer a stream of writer requests
-  second check-coverage DIR             name the refusals and stages the logs reach";
+  second check-coverage DIR             name the refusals and stages the logs reach,
+                                        and the answers to CS";
 
 /// The seed when none is given.
 const DEFAULT_SEED: u64 = 1;
