@@ -1,13 +1,18 @@
 //! CS, the challenges with a shift (request 2.1).
 
-use second::arith::{Scalar, Q};
+use second::arith::{Element, Scalar, Q};
+use second::generator::committee::as_cs;
+use second::generator::course::completed;
 use second::generator::document::{
     challenges, record, response, shifted, shifted_challenges, too_many_bad, up_to_challenges,
     up_to_complaints, up_to_dealings, worked,
 };
+use second::generator::draft::Draft;
 use second::log::read_log;
+use second::params::Params;
 use second::refusal::answer_number;
 use second::report::report;
+use second::rng::Rng;
 use second::run::{Run, Stage};
 
 /// The worked log's run at stage 3.
@@ -135,5 +140,85 @@ fn a_cut_one_is_the_last_record() {
         assert_eq!(report(&log), "refuse 8 2\nhold 2 3 4\nqual 1 2 3\nbad -\nend 3\n");
         let log = [&up_to_challenges()[..], &cs[..length]].concat();
         assert_eq!(report(&log), "refuse 9 11\nhold 2 3 4\nqual 1 2 3\nbad -\nend 4\n");
+    }
+}
+
+/// A committee with a bad dealer at stage 3, and a CH for it.
+fn committee((n, t, a): (u8, u8, u8), rng: &mut Rng) -> (Draft, Vec<u8>) {
+    let params = Params::new(n, t, a).expect("within the bounds");
+    let mut draft = Draft::new(params, rng).with_bad_dealers(1, rng);
+    draft.go_to(Stage::Challenging, rng);
+    let ch = draft.committee.ch(rng);
+    (draft, ch)
+}
+
+/// The log of a draft at stage 3 that is given these challenges.
+fn signed(draft: &Draft, challenges: &[u8], rng: &mut Rng) -> Vec<u8> {
+    let mut draft = draft.clone();
+    draft.accept(challenges);
+    completed(draft, rng)
+}
+
+/// u, k, R and φ of every `sig` line of a page.
+fn signatures(page: &str) -> Vec<[u32; 4]> {
+    let numbers =
+        |line: &str| line.split(' ').map(|word| word.parse().expect("a number")).collect();
+    let lines = page.lines().filter_map(|line| line.strip_prefix("sig "));
+    lines.map(|line| <Vec<u32>>::try_into(numbers(line)).expect("four numbers")).collect()
+}
+
+/// u, k, R × 4^δ and φ + δ.
+fn moved([u, k, nonce, signature]: [u32; 4], shift: Scalar) -> [u32; 4] {
+    let nonce = Element::read(nonce).expect("an element") * Element::of(shift);
+    let signature = Scalar::read(signature).expect("a scalar") + shift;
+    [u, k, nonce.number(), signature.number()]
+}
+
+/// The same dealings, challenges and responses, with and without a shift.
+#[test]
+fn every_pair_is_shifted() {
+    let mut rng = Rng::new(3);
+    for params in [(4, 1, 1), (9, 2, 2), (11, 1, 4), (32, 10, 1), (32, 1, 15)] {
+        let (draft, ch) = committee(params, &mut rng);
+        let plain = signed(&draft, &ch, &mut rng);
+        for shift in [Scalar::ZERO, Scalar::ONE, Scalar::of(-1), Scalar::of(123_456_789)] {
+            let log = signed(&draft, &as_cs(&ch, shift.number()), &mut rng);
+            let after = |log: &[u8], length| log[draft.bytes.len() + length..].to_vec();
+            assert_eq!(after(&log, ch.len() + 4), after(&plain, ch.len()), "the responses");
+            let expected = signatures(&report(&plain)).into_iter().map(|line| moved(line, shift));
+            assert_eq!(signatures(&report(&log)), expected.collect::<Vec<_>>());
+        }
+    }
+}
+
+/// 4^φ = R × S^e for every line of the page.
+#[test]
+fn every_printed_line_verifies() {
+    let mut rng = Rng::new(4);
+    for params in [(4, 1, 1), (9, 2, 2), (14, 3, 3), (32, 1, 15)] {
+        let (draft, ch) = committee(params, &mut rng);
+        let log = signed(&draft, &as_cs(&ch, 314_159_265), &mut rng);
+        let run = read_log(&log).run;
+        let public_key = run.setup.as_ref().expect("a setup").public_key;
+        let lines = signatures(&report(&log));
+        assert_eq!(lines.len(), (draft.params().a * draft.params().combinations()) as usize);
+        for [u, k, nonce, signature] in lines {
+            let challenge = run.challenges[u as usize - 1][k as usize - 1];
+            let nonce = Element::read(nonce).expect("an element");
+            let signature = Scalar::read(signature).expect("a scalar");
+            assert_eq!(Element::of(signature), nonce * public_key.power(challenge));
+        }
+    }
+}
+
+#[test]
+fn any_quorum_gives_the_same_page() {
+    let mut rng = Rng::new(5);
+    let (mut draft, ch) = committee((11, 2, 2), &mut rng);
+    draft.accept(&as_cs(&ch, 271_828_182));
+    let page = report(&completed(draft.clone(), &mut rng));
+    for _ in 0..20 {
+        draft.responders = rng.some_of(&draft.holders, draft.params().quorum());
+        assert_eq!(report(&completed(draft.clone(), &mut rng)), page);
     }
 }
