@@ -1,12 +1,23 @@
-//! Which refusal numbers and last stages a set of logs reaches.
+//! Which refusal numbers and last stages a set of logs reaches, and what becomes
+//! of the CS records in it.
 
-use crate::log::read_log;
+use crate::arith::Scalar;
+use crate::log::{read_log, Reading};
+use crate::records::Tag;
+use crate::refusal::answer_number;
 use crate::report::LONGEST_LOG;
 use crate::run::Stage;
 use std::collections::BTreeMap;
 
 /// The numbers with which a record can be refused.
 const RECORD_REFUSALS: [u8; 13] = [1, 2, 3, 4, 5, 6, 7, 8, 11, 12, 13, 14, 15];
+
+/// The numbers that answer CS records, 0 for acceptance.
+const SHIFT_ANSWERS: [u8; 5] = [0, 11, 2, 3, 6];
+
+/// Logs that end at stage 5 after an accepted CS, with each kind of shift.
+const UNSHIFTED: &str = "done with the shift 0";
+const SHIFTED: &str = "done with another shift";
 
 #[derive(Default)]
 pub struct Coverage {
@@ -17,6 +28,10 @@ pub struct Coverage {
     pub refusals: BTreeMap<u8, usize>,
     /// How many logs ended at a stage.
     pub stages: BTreeMap<u8, usize>,
+    /// How many CS records got an answer, by number.
+    pub shift_answers: BTreeMap<u8, usize>,
+    /// How many logs ended at stage 5 after an accepted CS, by kind of shift.
+    pub done_by_shift: BTreeMap<&'static str, usize>,
 }
 
 impl Coverage {
@@ -28,33 +43,54 @@ impl Coverage {
         }
         let reading = read_log(log);
         *self.stages.entry(reading.run.stage.number()).or_default() += 1;
-        for (_, refusal) in reading.refused {
+        for (_, refusal) in reading.refused() {
             *self.refusals.entry(refusal.number()).or_default() += 1;
+        }
+        self.add_shifts(&reading);
+    }
+
+    fn add_shifts(&mut self, reading: &Reading) {
+        for (_, answer) in reading.answers.iter().filter(|(tag, _)| *tag == Some(Tag::Cs)) {
+            *self.shift_answers.entry(answer_number(*answer)).or_default() += 1;
+        }
+        let accepted = reading.answers.contains(&(Some(Tag::Cs), Ok(())));
+        if accepted && reading.run.stage == Stage::Done {
+            let kind = if reading.run.shift == Scalar::ZERO { UNSHIFTED } else { SHIFTED };
+            *self.done_by_shift.entry(kind).or_default() += 1;
         }
     }
 
-    /// The refusals and last stages that never occur, in words.
+    /// What never occurs, in words.
     pub fn missing(&self) -> Vec<String> {
-        let refusals = RECORD_REFUSALS
-            .into_iter()
-            .filter(|number| !self.refusals.contains_key(number))
-            .map(|number| format!("refusal {number}"));
-        let stages = Stage::ALL
-            .into_iter()
-            .map(Stage::number)
-            .filter(|number| !self.stages.contains_key(number))
-            .map(|number| format!("stage {number}"));
-        refusals.chain(stages).collect()
+        let stages = Stage::ALL.map(Stage::number);
+        let mut missing = absent("refusal", &RECORD_REFUSALS, &self.refusals);
+        missing.extend(absent("stage", &stages, &self.stages));
+        missing.extend(absent("CS answered", &SHIFT_ANSWERS, &self.shift_answers));
+        let kinds = [UNSHIFTED, SHIFTED].into_iter();
+        let never = kinds.filter(|kind| !self.done_by_shift.contains_key(kind));
+        missing.extend(never.map(str::to_string));
+        missing
     }
 
     /// The counts and whatever is missing, a line each.
     pub fn lines(&self) -> Vec<String> {
         let mut lines = vec![format!("logs {}", self.logs), format!("long {}", self.long)];
-        lines.extend(
-            self.refusals.iter().map(|(number, count)| format!("refusal {number}: {count}")),
-        );
-        lines.extend(self.stages.iter().map(|(number, count)| format!("stage {number}: {count}")));
+        lines.extend(counted("refusal", &self.refusals));
+        lines.extend(counted("stage", &self.stages));
+        lines.extend(counted("CS answered", &self.shift_answers));
+        lines.extend(self.done_by_shift.iter().map(|(kind, count)| format!("{kind}: {count}")));
         lines.extend(self.missing().iter().map(|what| format!("missing {what}")));
         lines
     }
+}
+
+/// The numbers that never occur, each behind the name of its kind.
+fn absent(kind: &str, wanted: &[u8], counts: &BTreeMap<u8, usize>) -> Vec<String> {
+    let absent = wanted.iter().filter(|number| !counts.contains_key(number));
+    absent.map(|number| format!("{kind} {number}")).collect()
+}
+
+/// How often each number occurs, a line each.
+fn counted(kind: &str, counts: &BTreeMap<u8, usize>) -> Vec<String> {
+    counts.iter().map(|(number, count)| format!("{kind} {number}: {count}")).collect()
 }

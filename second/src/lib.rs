@@ -1,10 +1,10 @@
 //! A second implementation of the SPRINT bench, for comparing reports log by log.
 //!
-//! It is written from document 01 alone and shares no code and no algorithm
-//! with the proved core. Where the two could meet, this one is built the plain
-//! way: accepted records stand in order of arrival, sets are sorted sets of
-//! party numbers, and the weights of interpolation come from solving the
-//! Vandermonde system by Gaussian elimination.
+//! It is written from documents 01 and 02 alone and shares no code and no
+//! algorithm with the proved core. Where the two could meet, this one is built
+//! the plain way: accepted records stand in order of arrival, sets are sorted
+//! sets of party numbers, the weights of interpolation come from solving the
+//! Vandermonde system by Gaussian elimination, and a shift is one more dealing.
 //!
 //! - `arith`: scalars and group elements
 //! - `weights`: interpolation

@@ -9,21 +9,26 @@ use crate::run::{Run, Stage};
 #[derive(Clone, Debug)]
 pub struct Reading {
     pub run: Run,
+    /// Each record's tag, if it has one, and the run's answer to it.
+    pub answers: Vec<(Option<Tag>, Result<(), Refusal>)>,
+}
+
+impl Reading {
     /// The refused records, by position in the log counted from 1.
-    pub refused: Vec<(usize, Refusal)>,
+    pub fn refused(&self) -> impl Iterator<Item = (usize, Refusal)> + '_ {
+        let numbered = (1..).zip(&self.answers);
+        numbered.filter_map(|(position, (_, answer))| Some((position, answer.err()?)))
+    }
 }
 
 /// Reads a log from a fresh run to its end.
 pub fn read_log(log: &[u8]) -> Reading {
-    let mut reading = Reading { run: Run::fresh(), refused: Vec::new() };
+    let mut reading = Reading { run: Run::fresh(), answers: Vec::new() };
     let mut rest = log;
-    let mut position = 0;
     while !rest.is_empty() {
         let (record, after) = cut(&reading.run, rest);
-        position += 1;
-        if let Err(refusal) = reading.run.give(record) {
-            reading.refused.push((position, refusal));
-        }
+        let answer = reading.run.give(record);
+        reading.answers.push((Tag::of(record), answer));
         rest = after;
     }
     reading

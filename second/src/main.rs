@@ -1,5 +1,5 @@
 //! The program `second`: prints reports, makes logs and requests, answers requests.
-//! Written from document 01 alone.
+//! Written from documents 01 and 02 alone.
 
 use second::coverage::Coverage;
 use second::generator::calls::all_streams;
@@ -16,7 +16,8 @@ const USAGE: &str = "usage:
   second generate DIR [--seed N]        write logs
   second requests DIR [--seed N]        write streams of writer requests
   second write < REQUESTS               answer a stream of writer requests
-  second check-coverage DIR             name the refusals and stages the logs reach";
+  second check-coverage DIR             name the refusals and stages the logs reach,
+                                        and the answers to CS";
 
 /// The seed when none is given.
 const DEFAULT_SEED: u64 = 1;

@@ -1,6 +1,7 @@
-//! The five kinds of record: their tags, their lengths, and reading their
-//! bytes. Reading asks refusals 2 to 8 of the whole record, in the order of
-//! document 01: 2, 3, 4, 5, 7, 6, 8. Written from document 01 alone.
+//! The six kinds of record, CS of request 2.1 among them: their tags, their
+//! lengths, and reading their bytes. Reading asks refusals 2 to 8 of the whole
+//! record, in the order of document 01: 2, 3, 4, 5, 7, 6, 8. Written from
+//! documents 01 and 02 alone.
 
 use crate::arith::{Element, Scalar};
 use crate::params::{Params, Party};
@@ -14,6 +15,8 @@ pub enum Tag {
     De,
     Ve,
     Ch,
+    /// CH with a shift.
+    Cs,
     Re,
 }
 
@@ -42,6 +45,14 @@ pub struct Complaint {
     pub blamed: BTreeSet<Party>,
 }
 
+/// CH or CS: the challenges and the shift δ, which is 0 for CH.
+#[derive(Clone, Debug, PartialEq, Eq)]
+pub struct Challenges {
+    pub shift: Scalar,
+    /// e(u,k): for each u, those of slots 1 to a.
+    pub rows: Vec<Vec<Scalar>>,
+}
+
 /// RE: the response numbers of a holder, u from 1 to b.
 #[derive(Clone, Debug, PartialEq, Eq)]
 pub struct Response {
@@ -50,7 +61,7 @@ pub struct Response {
 }
 
 impl Tag {
-    pub const ALL: [Tag; 5] = [Tag::Su, Tag::De, Tag::Ve, Tag::Ch, Tag::Re];
+    pub const ALL: [Tag; 6] = [Tag::Su, Tag::De, Tag::Ve, Tag::Ch, Tag::Cs, Tag::Re];
 
     pub fn letters(self) -> &'static [u8; 2] {
         match self {
@@ -58,6 +69,7 @@ impl Tag {
             Tag::De => b"DE",
             Tag::Ve => b"VE",
             Tag::Ch => b"CH",
+            Tag::Cs => b"CS",
             Tag::Re => b"RE",
         }
     }
@@ -70,11 +82,13 @@ impl Tag {
     /// The length of a record of this tag, SU aside: `setup_length` gives that one.
     pub fn length(self, params: &Params) -> usize {
         let (n, quorum, b) = (params.n as usize, params.quorum(), params.combinations() as usize);
+        let a = params.a as usize;
         match self {
             Tag::Su => setup_length(params.t as u8),
             Tag::De => 4 + 4 * quorum + 4 * n,
             Tag::Ve => 8,
-            Tag::Ch => 4 + 4 * params.a as usize * b,
+            Tag::Ch => 4 + 4 * a * b,
+            Tag::Cs => 8 + 4 * a * b,
             Tag::Re => 4 + 4 * b,
         }
     }
@@ -162,13 +176,17 @@ pub fn read_complaint(bytes: &[u8], params: &Params) -> Result<Complaint, Refusa
     Ok(Complaint { holder, blamed })
 }
 
-/// The challenges e(u,k), one list of a for each u.
-pub fn read_challenges(bytes: &[u8], params: &Params) -> Result<Vec<Vec<Scalar>>, Refusal> {
-    check_length(bytes, Tag::Ch.length(params))?;
+/// CH, and CS, whose first scalar is the shift.
+pub fn read_challenges(tag: Tag, bytes: &[u8], params: &Params) -> Result<Challenges, Refusal> {
+    check_length(bytes, tag.length(params))?;
     check_reserved(&bytes[2..4])?;
-    let challenges = scalars(&bytes[4..])?;
-    let rows = challenges.chunks(params.a as usize);
-    Ok(rows.map(<[Scalar]>::to_vec).collect())
+    let scalars = scalars(&bytes[4..])?;
+    let (shift, challenges) = match tag {
+        Tag::Cs => (scalars[0], &scalars[1..]),
+        _ => (Scalar::ZERO, &scalars[..]),
+    };
+    let rows = challenges.chunks(params.a as usize).map(<[Scalar]>::to_vec).collect();
+    Ok(Challenges { shift, rows })
 }
 
 pub fn read_response(bytes: &[u8], params: &Params) -> Result<Response, Refusal> {

@@ -21,8 +21,7 @@ pub fn report(log: &[u8]) -> String {
 fn report_lines(reading: &Reading) -> Vec<String> {
     let run = &reading.run;
     let mut lines: Vec<String> = reading
-        .refused
-        .iter()
+        .refused()
         .map(|(position, refusal)| format!("refuse {position} {}", refusal.number()))
         .collect();
     let sets = run.sets.as_ref();

@@ -1,6 +1,14 @@
 //! The run: its stages, what it keeps, and its answer to each record.
-//! Accepted records are kept in order of arrival. Written from document 01
-//! alone; no code or algorithm is shared with the proved core.
+//! Accepted records are kept in order of arrival. Written from documents 01 and
+//! 02 alone; no code or algorithm is shared with the proved core.
+//!
+//! The shift δ of request 2.1 is one more dealing, which everyone knows: the
+//! constant polynomial δ, with commitments 4^δ and the share δ for every holder.
+//! It counts in every combination with the factor 1, so H_u becomes H_u + δ.
+//! C_u(1-k) with it is R(u,k) × 4^δ. The numbers H_u(j) + E_u(j) × F(j) with it
+//! are all δ more, and so is what they interpolate to, as the weights of
+//! any points sum to 1: that is φ(u,k) + δ. Response rows are made and tested
+//! without it.
 
 use crate::arith::{Element, Scalar};
 use crate::params::{party_point, slot_point, Params, Party};
@@ -46,8 +54,10 @@ pub struct Run {
     pub sets: Option<Sets>,
     /// The challenges: for each u, those of slots 1 to a.
     pub challenges: Vec<Vec<Scalar>>,
+    /// δ: 0 until CS gives another.
+    pub shift: Scalar,
     pub responses: Vec<Response>,
-    /// At stage 5, every φ: for each u, those of slots 1 to a.
+    /// At stage 5, every φ, shifted: for each u, those of slots 1 to a.
     pub signatures: Vec<Vec<Scalar>>,
     weights: WeightTable,
 }
@@ -67,15 +77,15 @@ impl Stage {
         self as u8
     }
 
-    /// The one tag taken at this stage, if any.
-    pub fn takes(self) -> Option<Tag> {
+    /// The tags taken at this stage.
+    pub fn takes(self) -> &'static [Tag] {
         match self {
-            Stage::Fresh => Some(Tag::Su),
-            Stage::Dealing => Some(Tag::De),
-            Stage::Complaining => Some(Tag::Ve),
-            Stage::Challenging => Some(Tag::Ch),
-            Stage::Responding => Some(Tag::Re),
-            Stage::Done | Stage::Failed => None,
+            Stage::Fresh => &[Tag::Su],
+            Stage::Dealing => &[Tag::De],
+            Stage::Complaining => &[Tag::Ve],
+            Stage::Challenging => &[Tag::Ch, Tag::Cs],
+            Stage::Responding => &[Tag::Re],
+            Stage::Done | Stage::Failed => &[],
         }
     }
 }
@@ -87,7 +97,7 @@ impl Default for Run {
 }
 
 impl Run {
-    /// Stage 0, every list empty.
+    /// Stage 0, every list empty, no shift.
     pub fn fresh() -> Run {
         Run {
             stage: Stage::Fresh,
@@ -96,6 +106,7 @@ impl Run {
             complaints: Vec::new(),
             sets: None,
             challenges: Vec::new(),
+            shift: Scalar::ZERO,
             responses: Vec::new(),
             signatures: Vec::new(),
             weights: WeightTable::default(),
@@ -105,14 +116,14 @@ impl Run {
     /// Takes a record or refuses it; a refusal leaves the run as it was.
     pub fn give(&mut self, record: &[u8]) -> Result<(), Refusal> {
         let tag = Tag::of(record).ok_or(Refusal::Tag)?;
-        if self.stage.takes() != Some(tag) {
+        if !self.stage.takes().contains(&tag) {
             return Err(Refusal::Stage);
         }
         match tag {
             Tag::Su => self.take_setup(record),
             Tag::De => self.take_dealing(record),
             Tag::Ve => self.take_complaint(record),
-            Tag::Ch => self.take_challenges(record),
+            Tag::Ch | Tag::Cs => self.take_challenges(tag, record),
             Tag::Re => self.take_response(record),
         }
     }
@@ -172,8 +183,9 @@ impl Run {
         Ok(())
     }
 
-    fn take_challenges(&mut self, record: &[u8]) -> Result<(), Refusal> {
-        self.challenges = records::read_challenges(record, &self.params())?;
+    fn take_challenges(&mut self, tag: Tag, record: &[u8]) -> Result<(), Refusal> {
+        let sent = records::read_challenges(tag, record, &self.params())?;
+        (self.shift, self.challenges) = (sent.shift, sent.rows);
         self.stage = Stage::Responding;
         Ok(())
     }
@@ -233,6 +245,13 @@ impl Run {
         self.expect_sets().qual.iter().map(of_dealer).collect()
     }
 
+    /// What the shift's dealing is committed to at a point. Its dealer counts as
+    /// number 1, since 1^(u-1) is 1 for every u.
+    fn shift_commitment_at(&self, point: Scalar) -> (Party, Element) {
+        let commitments = vec![Element::of(self.shift); self.params().quorum()];
+        (1, self.commitment_at(&commitments, point))
+    }
+
     /// S_j.
     fn key_of(&self, holder: Party) -> Element {
         let setup = self.expect_setup();
@@ -259,24 +278,29 @@ impl Run {
         (1..).zip(&response.numbers).all(number_passes)
     }
 
-    /// Every φ: the accepted response numbers for u, interpolated at each slot.
+    /// Every φ: the accepted response numbers for u, with the share δ of the
+    /// shift's dealing in each, interpolated at each slot.
     fn work_out_signatures(&self) -> Vec<Vec<Scalar>> {
         let points: Vec<Scalar> =
             self.responses.iter().map(|row| party_point(row.holder)).collect();
         let of_combination = |u: u32| -> Vec<Scalar> {
-            let values: Vec<Scalar> =
-                self.responses.iter().map(|row| row.numbers[(u - 1) as usize]).collect();
+            let numbers = self.responses.iter().map(|row| row.numbers[(u - 1) as usize]);
+            let values: Vec<Scalar> = numbers.map(|number| number + self.shift).collect();
             let slots = self.params().slot_points();
             slots.iter().map(|&slot| self.weights.scalar_at(&points, &values, slot)).collect()
         };
         (1..=self.params().combinations()).map(of_combination).collect()
     }
 
-    /// Every R(u,k) of a run past stage 2: for each u, those of slots 1 to a.
+    /// Every R(u,k) of a run past stage 2, shifted: for each u, those of slots 1 to a.
     pub fn nonces(&self) -> Vec<Vec<Element>> {
         let params = self.params();
-        let by_slot: Vec<Vec<(Party, Element)>> =
-            (1..=params.a).map(|k| self.qual_commitments_at(slot_point(k))).collect();
+        let at_slot = |k: u32| {
+            let mut commitments = self.qual_commitments_at(slot_point(k));
+            commitments.push(self.shift_commitment_at(slot_point(k)));
+            commitments
+        };
+        let by_slot: Vec<Vec<(Party, Element)>> = (1..=params.a).map(at_slot).collect();
         let of_combination =
             |u| by_slot.iter().map(|commitments| combine(commitments, u)).collect();
         (1..=params.combinations()).map(of_combination).collect()

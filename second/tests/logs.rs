@@ -1,7 +1,7 @@
 //! Where a log is cut and where reading ends, and the set of generated logs.
 
 use second::coverage::Coverage;
-use second::generator::document::{plain_setup, record, up_to_challenges, worked};
+use second::generator::document::{plain_setup, record, shifted, up_to_challenges, worked};
 use second::generator::log_set::NamedLog;
 use second::generator::logs::all_logs;
 use second::report::{report, LONGEST_LOG};
@@ -28,7 +28,7 @@ fn longest_log_is_read() {
 
 #[test]
 fn reading_ends_at_stage_0_on_another_tag() {
-    for rest in [&b"DE"[..], b"VE\x01\0\0\0\0\0", b"CH\0\0", b"RE\x01"] {
+    for rest in [&b"DE"[..], b"VE\x01\0\0\0\0\0", b"CH\0\0", b"CS\0\0", b"RE\x01"] {
         assert_eq!(report(rest), format!("refuse 1 11\n{NO_SETS}end 0\n"));
     }
 }
@@ -96,9 +96,32 @@ fn generated_logs_cover_everything() {
     assert_eq!(coverage.missing(), Vec::<String>::new());
 }
 
+/// Without CS the coverage is not whole.
+#[test]
+fn shifts_are_asked_for() {
+    let mut coverage = Coverage::default();
+    for log in logs().iter().filter(|log| !log.kind.contains("shift")) {
+        coverage.add(&log.bytes);
+    }
+    let answers = [0, 11, 2, 3, 6].map(|number| format!("CS answered {number}"));
+    let ends = ["done with the shift 0", "done with another shift"].map(str::to_string);
+    assert_eq!(coverage.missing(), [&answers[..], &ends].concat());
+    coverage.add(&shifted(0));
+    assert_eq!(coverage.missing(), [&answers[1..], &ends[1..]].concat());
+    coverage.add(&shifted(5));
+    assert_eq!(coverage.missing(), answers[1..]);
+}
+
 #[test]
 fn large_committees_are_completed() {
-    for kind in ["complete-32-1-15", "complete-32-10-1", "full-packing", "size-ends-done"] {
+    for kind in [
+        "complete-32-1-15",
+        "complete-32-10-1",
+        "full-packing",
+        "size-ends-done",
+        "shift-complete-32-1-15",
+        "shift-complete-32-10-1",
+    ] {
         for log in logs().iter().filter(|log| log.kind.starts_with(kind)) {
             assert!(report(&log.bytes).ends_with("end 5\n"), "{kind}");
         }

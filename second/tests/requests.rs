@@ -1,7 +1,7 @@
 //! The request stream and the writers' answers.
 
 use second::generator::broken_calls::{broken_requests, broken_streams, mixed_stream};
-use second::generator::calls::{all_requests, whole_streams};
+use second::generator::calls::{all_requests, in_streams, requests_with_shifts};
 use second::generator::document::{response, up_to_challenges, up_to_dealings};
 use second::requests::{answer_stream, framed, Call, Request, LONGEST_STREAM};
 use std::collections::BTreeSet;
@@ -49,9 +49,19 @@ fn the_worked_log_is_written() {
 
 #[test]
 fn streams_are_read_as_written() {
-    let lines: String = all_requests(1).iter().map(Request::answer_line).collect();
-    let read: String = whole_streams(1).iter().map(|stream| answer_stream(stream)).collect();
+    let requests = all_requests(1);
+    let lines: String = requests.iter().map(Request::answer_line).collect();
+    let read: String = in_streams(&requests).iter().map(|stream| answer_stream(stream)).collect();
     assert_eq!(read, lines);
+}
+
+/// A shift changes nothing in the responses of the worked log.
+#[test]
+fn the_same_responses_are_written_after_a_shift() {
+    let requests = requests_with_shifts(1);
+    for (request, row) in requests.iter().zip([response(2, [10, 22]), response(3, [13, 28])]) {
+        assert_eq!(request.answer(), (0, row));
+    }
 }
 
 #[test]

@@ -9,6 +9,7 @@ use crate::run::Run;
 use crate::weights::WeightTable;
 use crate::writers::{write_de, write_re, write_su, write_ve};
 
+#[derive(Clone)]
 pub struct Committee {
     pub params: Params,
     /// s.
@@ -58,6 +59,11 @@ pub fn as_numbers(scalars: &[Scalar]) -> Vec<u32> {
 
 pub fn as_bytes(params: Params) -> (u8, u8, u8) {
     (params.n as u8, params.t as u8, params.a as u8)
+}
+
+/// The CS with the challenges of a CH.
+pub fn as_cs(ch: &[u8], shift: u32) -> Vec<u8> {
+    [Tag::Cs.letters(), &ch[2..4], &shift.to_be_bytes(), &ch[4..]].concat()
 }
 
 impl Committee {
@@ -110,6 +116,10 @@ impl Committee {
         let challenges = as_numbers(&random_scalars(count, rng));
         let numbers = challenges.iter().flat_map(|number| number.to_be_bytes());
         Tag::Ch.letters().iter().copied().chain([0, 0]).chain(numbers).collect()
+    }
+
+    pub fn cs(&self, shift: Scalar, rng: &mut Rng) -> Vec<u8> {
+        as_cs(&self.ch(rng), shift.number())
     }
 
     pub fn re(&self, run: &Run, j: Party) -> Vec<u8> {

@@ -3,7 +3,6 @@
 
 use super::draft::Draft;
 use super::spoil;
-use crate::records::Tag;
 use crate::refusal::Refusal;
 use crate::rng::Rng;
 use crate::run::Stage;
@@ -55,9 +54,51 @@ pub fn completed(mut draft: Draft, rng: &mut Rng) -> Vec<u8> {
 
 /// A record of each tag that the stage does not take.
 pub fn add_every_alien(draft: &mut Draft, rng: &mut Rng) {
-    let taken = draft.run.stage.takes();
-    for tag in Tag::ALL.into_iter().filter(|&tag| Some(tag) != taken) {
+    for tag in draft.alien_tags() {
         let record = spoil::alien(draft, tag, rng);
         draft.refuse(&record, Refusal::Stage);
+    }
+}
+
+/// The bytes of a draft with every set of faults that a record can have. The
+/// faults are made before the last record of each stage; after it comes a
+/// record of each tag that the next stage does not take.
+pub fn with_every_fault(mut draft: Draft, rng: &mut Rng) -> Vec<u8> {
+    while !draft.at_end() {
+        let last = is_last_of_stage(&draft, rng);
+        if last {
+            add_every_fault(&mut draft, rng);
+        }
+        draft.step(rng);
+        if last {
+            add_every_alien(&mut draft, rng);
+        }
+    }
+    draft.bytes
+}
+
+/// Does the next good record end the stage?
+fn is_last_of_stage(draft: &Draft, rng: &mut Rng) -> bool {
+    let mut ahead = draft.run.clone();
+    assert_eq!(ahead.give(&draft.next_record(rng)), Ok(()));
+    ahead.stage != draft.run.stage
+}
+
+fn add_every_fault(draft: &mut Draft, rng: &mut Rng) {
+    for (record, refusal) in spoil::all_faults(draft, rng) {
+        draft.refuse(&record, refusal);
+    }
+    if draft.run.stage == Stage::Responding {
+        add_wronged_responses(draft, rng);
+    }
+}
+
+/// Every response number in turn is off by one.
+fn add_wronged_responses(draft: &mut Draft, rng: &mut Rng) {
+    let good = draft.next_record(rng);
+    for u in 0..draft.params().combinations() as usize {
+        let mut record = good.clone();
+        spoil::shift_number(&mut record, 4 + 4 * u, 1);
+        draft.refuse(&record, Refusal::Response);
     }
 }

@@ -1,4 +1,5 @@
 //! The logs that document 01 gives: the worked one and its cases B, C, D, E, L.
+//! Besides, the worked one with a shift.
 
 /// A record from its letters, its one-byte fields and its numbers.
 pub fn record(letters: &str, fields: &[u8], numbers: &[u32]) -> Vec<u8> {
@@ -25,18 +26,17 @@ fn complaints(mask: u32) -> Vec<Vec<u8>> {
     vec![record("VE", &[2, 0], &[mask]), record("VE", &[3, 0], &[0]), record("VE", &[4, 0], &[0])]
 }
 
-fn challenges() -> Vec<u8> {
+pub fn challenges() -> Vec<u8> {
     record("CH", &[0, 0], &[1, 2])
+}
+
+/// CS with the same challenges.
+pub fn shifted_challenges(shift: u32) -> Vec<u8> {
+    record("CS", &[0, 0], &[shift, 1, 2])
 }
 
 pub fn response(holder: u8, numbers: [u32; 2]) -> Vec<u8> {
     record("RE", &[holder, 0], &numbers)
-}
-
-/// The records before any response.
-fn prelude(second: u32, third: u32, mask: u32) -> Vec<Vec<u8>> {
-    let start = [vec![setup()], dealings(second, third), complaints(mask)].concat();
-    [start, vec![challenges()]].concat()
 }
 
 /// The log up to the dealings, with the shares for 2 of dealers 2 and 3 as sent.
@@ -44,14 +44,28 @@ pub fn up_to_dealings(second: u32, third: u32) -> Vec<u8> {
     [vec![setup()], dealings(second, third)].concat().concat()
 }
 
+/// The worked log up to the complaint rows.
+pub fn up_to_complaints() -> Vec<u8> {
+    [up_to_dealings(1, 4), complaints(0).concat()].concat()
+}
+
 /// The worked log up to CH.
 pub fn up_to_challenges() -> Vec<u8> {
-    prelude(1, 4, 0).concat()
+    [up_to_complaints(), challenges()].concat()
+}
+
+fn responses() -> Vec<u8> {
+    [response(2, [10, 22]), response(3, [13, 28])].concat()
 }
 
 /// A: the worked log.
 pub fn worked() -> Vec<u8> {
-    [up_to_challenges(), response(2, [10, 22]), response(3, [13, 28])].concat()
+    [up_to_challenges(), responses()].concat()
+}
+
+/// The worked log with CS in place of CH.
+pub fn shifted(shift: u32) -> Vec<u8> {
+    [up_to_complaints(), shifted_challenges(shift), responses()].concat()
 }
 
 /// B: a response from 1, who is not in HOLD.
@@ -66,7 +80,7 @@ pub fn failing() -> Vec<u8> {
 
 /// D: dealer 3 wrongs holder 2 and is blamed.
 pub fn one_bad() -> Vec<u8> {
-    let start = prelude(1, 5, 4).concat();
+    let start = [up_to_dealings(1, 5), complaints(4).concat(), challenges()].concat();
     [start, response(2, [6, 10]), response(3, [8, 13])].concat()
 }
 

@@ -3,15 +3,19 @@
 //! and a different answer stops the generator.
 
 use super::bytes::put;
-use super::committee::{random_params, Committee};
+use super::committee::{random_params, random_scalar, Committee};
 use crate::arith::Scalar;
 use crate::params::{Params, Party};
 use crate::records::Tag;
 use crate::refusal::Refusal;
 use crate::rng::Rng;
-use crate::run::{Run, Stage};
+use crate::run::Run;
 use std::collections::BTreeSet;
 
+/// The tags of document 01.
+pub const FIRST_TAGS: [Tag; 5] = [Tag::Su, Tag::De, Tag::Ve, Tag::Ch, Tag::Re];
+
+#[derive(Clone)]
 pub struct Draft {
     pub committee: Committee,
     pub run: Run,
@@ -26,6 +30,10 @@ pub struct Draft {
     pub silent: BTreeSet<Party>,
     /// How often, of a hundred, a refused record comes before an accepted one.
     pub noise: u32,
+    /// The tags of its records, refused ones among them.
+    pub tags: &'static [Tag],
+    /// The shift that the challenges are given with; CH gives them where there is none.
+    pub shift: Option<Scalar>,
 }
 
 impl Draft {
@@ -43,6 +51,8 @@ impl Draft {
             wrong: BTreeSet::new(),
             silent: BTreeSet::new(),
             noise: 0,
+            tags: &FIRST_TAGS,
+            shift: None,
         }
     }
 
@@ -76,17 +86,48 @@ impl Draft {
         self
     }
 
+    /// CS is among the refused records too.
+    pub fn with_every_tag(mut self) -> Draft {
+        self.tags = &Tag::ALL;
+        self
+    }
+
+    /// CS gives the challenges with this shift, and is among the refused records.
+    pub fn with_shift(mut self, shift: Scalar) -> Draft {
+        self.shift = Some(shift);
+        self.with_every_tag()
+    }
+
+    /// The draft's tags that the stage of the run takes.
+    pub fn taken_tags(&self) -> Vec<Tag> {
+        let taken = self.run.stage.takes();
+        self.tags.iter().copied().filter(|tag| taken.contains(tag)).collect()
+    }
+
+    /// The draft's tags that it does not take.
+    pub fn alien_tags(&self) -> Vec<Tag> {
+        let taken = self.run.stage.takes();
+        self.tags.iter().copied().filter(|tag| !taken.contains(tag)).collect()
+    }
+
     /// The next good record for the stage of the run.
     pub fn next_record(&self, rng: &mut Rng) -> Vec<u8> {
-        match self.run.stage {
-            Stage::Fresh => self.committee.su(),
-            Stage::Dealing => self.dealing(self.dealers[self.run.dealings.len()], rng),
-            Stage::Complaining => self.complaint(self.holders[self.run.complaints.len()]),
-            Stage::Challenging => self.committee.ch(rng),
-            Stage::Responding => {
-                self.committee.re(&self.run, self.responders[self.run.responses.len()])
-            }
-            Stage::Done | Stage::Failed => panic!("no record is taken at the end"),
+        match (self.run.stage.takes(), self.shift) {
+            ([Tag::Ch, Tag::Cs], Some(shift)) => self.committee.cs(shift, rng),
+            ([tag, ..], _) => self.good_record(*tag, rng),
+            ([], _) => panic!("no record is taken at the end"),
+        }
+    }
+
+    /// A good record of a tag that the stage of the run takes.
+    pub fn good_record(&self, tag: Tag, rng: &mut Rng) -> Vec<u8> {
+        match tag {
+            Tag::Su => self.committee.su(),
+            Tag::De => self.dealing(self.dealers[self.run.dealings.len()], rng),
+            Tag::Ve => self.complaint(self.holders[self.run.complaints.len()]),
+            Tag::Ch => self.committee.ch(rng),
+            Tag::Cs => self.committee.cs(random_scalar(rng), rng),
+            Tag::Re => self.committee.re(&self.run, self.responders[self.run.responses.len()]),
         }
     }
 
@@ -122,7 +163,7 @@ impl Draft {
     }
 
     pub fn at_end(&self) -> bool {
-        self.run.stage.takes().is_none()
+        self.run.stage.takes().is_empty()
     }
 
     /// The length of a record of this tag in this committee.

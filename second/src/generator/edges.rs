@@ -4,7 +4,7 @@
 
 use super::course::{add_every_alien, completed};
 use super::document::{self, record};
-use super::draft::Draft;
+use super::draft::{Draft, FIRST_TAGS};
 use super::log_set::LogSet;
 use super::spoil;
 use crate::arith::{Element, P, Q};
@@ -16,13 +16,13 @@ use crate::rng::Rng;
 use crate::run::Stage;
 
 /// A committee small enough for many records in one log.
-fn small_draft(rng: &mut Rng) -> Draft {
+pub fn small_draft(rng: &mut Rng) -> Draft {
     let (n, t, a) = rng.pick(&[(4, 1, 1), (6, 1, 2), (7, 2, 1), (8, 1, 3)]);
     Draft::new(Params::new(n, t, a).expect("within the bounds"), rng)
 }
 
 /// A draft at a stage; for stage 6 one dealer too many is bad.
-fn draft_at(stage: Stage, draft: Draft, rng: &mut Rng) -> Draft {
+pub fn draft_at(stage: Stage, draft: Draft, rng: &mut Rng) -> Draft {
     let too_many = draft.params().t as usize + 1;
     let mut draft = match stage {
         Stage::Failed => draft.with_bad_dealers(too_many, rng),
@@ -107,9 +107,9 @@ pub fn cut_logs(gathered: &mut LogSet, rng: &mut Rng) {
 /// The beginnings of records to break off after.
 fn cut_tails(draft: &Draft, rng: &mut Rng) -> Vec<Vec<u8>> {
     let mut tails = Vec::new();
-    for tag in Tag::ALL {
-        let taken = draft.run.stage.takes() == Some(tag);
-        let whole = if taken { draft.next_record(rng) } else { spoil::alien(draft, tag, rng) };
+    for &tag in draft.tags {
+        let taken = draft.taken_tags().contains(&tag);
+        let whole = if taken { draft.good_record(tag, rng) } else { spoil::alien(draft, tag, rng) };
         let any = rng.between(2, whole.len() as u32 - 1) as usize;
         let mut lengths = match (taken, tag) {
             (true, Tag::Su) => vec![1, 2, 3, 4, 5, 6, 9, whole.len() - 1],
@@ -157,7 +157,7 @@ pub fn senseless_logs(gathered: &mut LogSet, rng: &mut Rng) {
         gathered.add("senseless-text", text.as_bytes().to_vec());
     }
     gathered.add_many("senseless-bytes", 4, |index| rng.bytes(1 + 40 * index));
-    for tag in Tag::ALL {
+    for tag in FIRST_TAGS {
         gathered.add("senseless-after-tag", [tag.letters().as_slice(), &rng.bytes(300)].concat());
     }
     for stage in Stage::ALL {
@@ -240,42 +240,50 @@ fn complaint_flood(rng: &mut Rng) -> Vec<u8> {
 /// Good logs with bytes changed, cut out or doubled, and records in no order.
 pub fn changed_logs(gathered: &mut LogSet, rng: &mut Rng) {
     gathered.add_many("changed-bytes", 50, |_| {
-        let mut log = base_log(rng);
-        for _ in 0..rng.between(1, 3) {
-            let place = rng.below(log.len());
-            log[place] = if rng.chance(50) { rng.byte() } else { log[place] ^ 1 << rng.below(8) };
-        }
-        log
+        let log = completed(base_draft(rng), rng);
+        changed(log, rng)
     });
-    gathered.add_many("spliced", 20, |_| spliced(rng));
-    gathered.add_many("jumbled", 16, |_| jumbled(rng));
+    gathered.add_many("spliced", 20, |_| {
+        let log = completed(base_draft(rng), rng);
+        spliced(&log, rng)
+    });
+    let tags = [Tag::De, Tag::De, Tag::Ve, Tag::Ve, Tag::Ch, Tag::Re];
+    gathered.add_many("jumbled", 16, |_| jumbled(&tags, rng));
 }
 
-/// A small complete log with some noise.
-fn base_log(rng: &mut Rng) -> Vec<u8> {
+/// A small committee with some noise.
+pub fn base_draft(rng: &mut Rng) -> Draft {
     let bad = rng.between(0, 1) as usize;
-    let draft = small_draft(rng).with_bad_dealers(bad, rng);
-    completed(draft.with_noise(15), rng)
+    small_draft(rng).with_bad_dealers(bad, rng).with_noise(15)
 }
 
-/// A log with a piece left out or doubled.
-fn spliced(rng: &mut Rng) -> Vec<u8> {
-    let log = base_log(rng);
+/// The log with some bytes changed.
+pub fn changed(mut log: Vec<u8>, rng: &mut Rng) -> Vec<u8> {
+    for _ in 0..rng.between(1, 3) {
+        let place = rng.below(log.len());
+        log[place] = if rng.chance(50) { rng.byte() } else { log[place] ^ 1 << rng.below(8) };
+    }
+    log
+}
+
+/// The log with a piece left out or doubled.
+pub fn spliced(log: &[u8], rng: &mut Rng) -> Vec<u8> {
     let (x, y) = (rng.below(log.len()), rng.below(log.len()));
     let (head, tail) = (&log[..x], &log[y..]);
     [head, tail].concat()
 }
 
-/// A setup, then records of any tag with numbers from a short list.
-fn jumbled(rng: &mut Rng) -> Vec<u8> {
+/// A setup, then records of these tags with numbers from a short list.
+pub fn jumbled(tags: &[Tag], rng: &mut Rng) -> Vec<u8> {
     let draft = small_draft(rng);
     let numbers = [1, 4, 16, 64, 0, Q - 1, 5, Q, P - 1, P];
     let mut log = draft.committee.su();
     for _ in 0..rng.between(20, 80) {
-        let tag = rng.pick(&[Tag::De, Tag::De, Tag::Ve, Tag::Ve, Tag::Ch, Tag::Re]);
+        let tag = rng.pick(tags);
         let sender = rng.between(0, draft.params().n + 1) as u8;
         log.extend(tag.letters());
-        log.extend([if tag == Tag::Ch { 0 } else { sender }, 0]);
+        let has_sender = !matches!(tag, Tag::Ch | Tag::Cs);
+        log.extend([if has_sender { sender } else { 0 }, 0]);
         let choice = rng.between(1, numbers.len() as u32) as usize;
         for _ in 0..(draft.length(tag) - 4) / 4 {
             log.extend(rng.pick(&numbers[..choice]).to_be_bytes());

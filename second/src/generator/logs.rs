@@ -1,15 +1,16 @@
 //! Every kind of log: those of document 01, committees that run their course
-//! with and without faults, and (in `edges`) logs at the limits of the format.
+//! with and without faults, logs at the limits of the format (in `edges`), and
+//! logs with CS (in `shifts` and `shift_edges`). New kinds stand last, so that
+//! the others keep their places and bytes.
 
 use super::committee::random_params;
-use super::course::{add_every_alien, completed};
+use super::course::{completed, with_every_fault};
 use super::document;
 use super::draft::Draft;
 use super::edges;
 use super::log_set::{LogSet, NamedLog};
-use super::spoil;
+use super::{shift_edges, shifts};
 use crate::params::Params;
-use crate::refusal::Refusal;
 use crate::rng::Rng;
 use crate::run::Stage;
 
@@ -32,6 +33,14 @@ pub fn all_logs(seed: u64) -> Vec<NamedLog> {
         edges::size_logs,
         edges::flood_logs,
         edges::changed_logs,
+        shifts::complete_logs,
+        shifts::pair_logs,
+        shifts::refused_logs,
+        shifts::later_logs,
+        shift_edges::stage_logs,
+        shift_edges::cut_logs,
+        shift_edges::length_logs,
+        shift_edges::senseless_logs,
     ];
     for group in groups {
         group(&mut gathered, &mut rng);
@@ -200,47 +209,5 @@ fn fault_logs(gathered: &mut LogSet, rng: &mut Rng) {
         let params = Params::new(n, t, a).expect("within the bounds");
         let draft = Draft::new(params, rng).with_bad_dealers(usize::from(t), rng);
         gathered.add("every-fault", with_every_fault(draft, rng));
-    }
-}
-
-/// The faults are made before the last record of each stage; after it comes a
-/// record of each tag that the next stage does not take.
-fn with_every_fault(mut draft: Draft, rng: &mut Rng) -> Vec<u8> {
-    while !draft.at_end() {
-        let last = is_last_of_stage(&draft, rng);
-        if last {
-            add_every_fault(&mut draft, rng);
-        }
-        draft.step(rng);
-        if last {
-            add_every_alien(&mut draft, rng);
-        }
-    }
-    draft.bytes
-}
-
-/// Does the next good record end the stage?
-fn is_last_of_stage(draft: &Draft, rng: &mut Rng) -> bool {
-    let mut ahead = draft.run.clone();
-    assert_eq!(ahead.give(&draft.next_record(rng)), Ok(()));
-    ahead.stage != draft.run.stage
-}
-
-fn add_every_fault(draft: &mut Draft, rng: &mut Rng) {
-    for (record, refusal) in spoil::all_faults(draft, rng) {
-        draft.refuse(&record, refusal);
-    }
-    if draft.run.stage == Stage::Responding {
-        add_wronged_responses(draft, rng);
-    }
-}
-
-/// Every response number in turn is off by one.
-fn add_wronged_responses(draft: &mut Draft, rng: &mut Rng) {
-    let good = draft.next_record(rng);
-    for u in 0..draft.params().combinations() as usize {
-        let mut record = good.clone();
-        spoil::shift_number(&mut record, 4 + 4 * u, 1);
-        draft.refuse(&record, Refusal::Response);
     }
 }

@@ -8,9 +8,10 @@
 //! - `spoil`: records made to be refused with an intended number
 //! - `course`: a draft that goes on, with refused records in between
 //! - `log_set`: logs gathered by kind
-//! - `edges`, `logs`: every kind of log
+//! - `edges`, `shifts`, `shift_edges`, `logs`: every kind of log
 //! - `request_set`: writer requests gathered, each with its intended number
-//! - `document_calls`, `value_calls`, `run_calls`: every kind of writer request
+//! - `document_calls`, `value_calls`, `run_calls`, `shift_calls`: every kind of
+//!   writer request
 //! - `broken_calls`: broken requests, and streams that are cut or too long
 //! - `calls`: every stream
 
@@ -27,5 +28,8 @@ pub mod log_set;
 pub mod logs;
 pub mod request_set;
 pub mod run_calls;
+pub mod shift_calls;
+pub mod shift_edges;
+pub mod shifts;
 pub mod spoil;
 pub mod value_calls;

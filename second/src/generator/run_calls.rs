@@ -35,12 +35,12 @@ fn sets(draft: &Draft) -> &Sets {
     draft.run.sets.as_ref().expect("the sets are fixed")
 }
 
-fn ve_request(draft: &Draft, j: Party) -> Request {
+pub fn ve_request(draft: &Draft, j: Party) -> Request {
     let call = Call::Ve { log: draft.bytes.clone(), j: j as u8 };
     Request { call, buffer_length: 8 }
 }
 
-fn re_request(draft: &Draft, j: Party) -> Request {
+pub fn re_request(draft: &Draft, j: Party) -> Request {
     let call = Call::Re {
         log: draft.bytes.clone(),
         j: j as u8,
@@ -158,7 +158,7 @@ fn with_share(draft: &Draft, dealer: Party, value: u32) -> Request {
 }
 
 /// Makes an RE request one that must be refused so.
-fn spoil_re(request: &mut Request, draft: &Draft, number: u8, rng: &mut Rng) {
+pub fn spoil_re(request: &mut Request, draft: &Draft, number: u8, rng: &mut Rng) {
     let Call::Re { log, j, key_share, shares } = &mut request.call else { panic!("not RE") };
     let params = draft.params();
     let hold = &sets(draft).hold;

@@ -1,7 +1,7 @@
 //! Records made to be refused, each with the number it must be refused with.
 
 use super::bytes::{get, put};
-use super::committee::random_params;
+use super::committee::{random_params, random_scalar};
 use super::draft::Draft;
 use crate::arith::{Element, Scalar, P, Q};
 use crate::params::Party;
@@ -18,14 +18,13 @@ fn faults_of(tag: Tag) -> &'static [Refusal] {
         Tag::Su => &[R::Reserved, R::Bounds, R::Element],
         Tag::De => &[R::Reserved, R::Party, R::Element, R::Scalar, R::Again],
         Tag::Ve => &[R::Reserved, R::Party, R::Mask, R::Again, R::FalseBlame],
-        Tag::Ch => &[R::Reserved, R::Scalar],
+        Tag::Ch | Tag::Cs => &[R::Reserved, R::Scalar],
         Tag::Re => &[R::Reserved, R::Party, R::Scalar, R::Again, R::Outsider, R::Response],
     }
 }
 
-/// The faults that can be made at this point of a draft, in order.
-fn possible_faults(draft: &Draft) -> Vec<Refusal> {
-    let tag = draft.run.stage.takes().expect("a stage that takes a tag");
+/// The faults that a record of the tag can have at this point of a draft, in order.
+fn possible_faults(draft: &Draft, tag: Tag) -> Vec<Refusal> {
     let possible = |&fault: &Refusal| match fault {
         Refusal::Again => !senders(draft).is_empty(),
         Refusal::Mask => draft.params().n < 32,
@@ -48,12 +47,17 @@ fn senders(draft: &Draft) -> Vec<Party> {
 /// Every set of faults that can be made here, as records of the right stage.
 /// Several faults in one record: the first in order gives the number.
 pub fn all_faults(draft: &Draft, rng: &mut Rng) -> Vec<(Vec<u8>, Refusal)> {
-    let possible = possible_faults(draft);
+    let taken = draft.taken_tags();
+    taken.into_iter().flat_map(|tag| faults_with_tag(draft, tag, rng)).collect()
+}
+
+fn faults_with_tag(draft: &Draft, tag: Tag, rng: &mut Rng) -> Vec<(Vec<u8>, Refusal)> {
+    let possible = possible_faults(draft, tag);
     let mut found = Vec::new();
     for choice in 1..1usize << possible.len() {
         let chosen = (0..possible.len()).filter(|place| choice >> place & 1 == 1);
         let faults: Vec<Refusal> = chosen.map(|place| possible[place]).collect();
-        found.push((faulty(draft, &faults, rng), faults[0]));
+        found.push((faulty(draft, tag, &faults, rng), faults[0]));
     }
     found
 }
@@ -65,7 +69,8 @@ pub fn random_fault(draft: &Draft, rng: &mut Rng) -> (Vec<u8>, Refusal) {
     if alien_only || alien_possible && rng.chance(25) {
         return (random_alien(draft, rng), Refusal::Stage);
     }
-    let possible = possible_faults(draft);
+    let tag = random_taken(draft, rng);
+    let possible = possible_faults(draft, tag);
     let mut faults = vec![rng.below(possible.len())];
     if rng.chance(25) {
         faults.push(rng.below(possible.len()));
@@ -73,13 +78,22 @@ pub fn random_fault(draft: &Draft, rng: &mut Rng) -> (Vec<u8>, Refusal) {
     faults.sort();
     faults.dedup();
     let faults: Vec<Refusal> = faults.iter().map(|&place| possible[place]).collect();
-    (faulty(draft, &faults, rng), faults[0])
+    (faulty(draft, tag, &faults, rng), faults[0])
 }
 
-/// The next good record with these faults; the later ones are made first, so
-/// that an earlier one is never undone.
-fn faulty(draft: &Draft, faults: &[Refusal], rng: &mut Rng) -> Vec<u8> {
-    let mut record = draft.next_record(rng);
+/// A tag that the stage takes; no lot is drawn where there is one alone.
+fn random_taken(draft: &Draft, rng: &mut Rng) -> Tag {
+    let taken = draft.taken_tags();
+    match taken[..] {
+        [tag] => tag,
+        _ => rng.pick(&taken),
+    }
+}
+
+/// A good record of the tag with these faults; the later ones are made first,
+/// so that an earlier one is never undone.
+fn faulty(draft: &Draft, tag: Tag, faults: &[Refusal], rng: &mut Rng) -> Vec<u8> {
+    let mut record = draft.good_record(tag, rng);
     for &fault in faults.iter().rev() {
         make_fault(draft, fault, &mut record, rng);
     }
@@ -109,11 +123,11 @@ fn make_fault(draft: &Draft, fault: Refusal, record: &mut Vec<u8>, rng: &mut Rng
     }
 }
 
-/// Where the reserved byte stands; CH has two.
+/// Where the reserved byte stands; CH and CS have two.
 fn reserved_place(record: &[u8], rng: &mut Rng) -> usize {
     match Tag::of(record) {
         Some(Tag::Su) => 5,
-        Some(Tag::Ch) => rng.pick(&[2, 3]),
+        Some(Tag::Ch | Tag::Cs) => rng.pick(&[2, 3]),
         _ => 3,
     }
 }
@@ -207,9 +221,7 @@ fn edge_or_any(count: usize, rng: &mut Rng) -> usize {
 
 /// A whole record of a tag that the stage does not take.
 pub fn random_alien(draft: &Draft, rng: &mut Rng) -> Vec<u8> {
-    let taken = draft.run.stage.takes();
-    let others: Vec<Tag> = Tag::ALL.into_iter().filter(|&tag| Some(tag) != taken).collect();
-    let tag = rng.pick(&others);
+    let tag = rng.pick(&draft.alien_tags());
     alien(draft, tag, rng)
 }
 
@@ -219,6 +231,7 @@ pub fn alien(draft: &Draft, tag: Tag, rng: &mut Rng) -> Vec<u8> {
         Tag::Su => alien_setup(rng),
         Tag::De => draft.committee.de(rng.between(1, draft.params().n)),
         Tag::Ch => draft.committee.ch(rng),
+        Tag::Cs => draft.committee.cs(random_scalar(rng), rng),
         _ => {
             let body = rng.bytes(draft.length(tag) - 2);
             [tag.letters().as_slice(), &body].concat()
