@@ -267,8 +267,8 @@ impl Run {
         let setup = self.setup;
         let old = self.challenges;
         let number = refusals::shifted_refusal(setup.n, setup.t, setup.a, bytes);
-        let challenges = old.with_shifted(setup, bytes);
-        self.challenged(challenges, number)
+        let shifted = old.with_shifted(setup, bytes);
+        self.challenged(shifted, number)
     }
 
     // Done: every φ is worked out, and shifted.
