@@ -12,7 +12,7 @@ use Rattle.records.specs.Parameters.{inBounds, quorum, batch}
 use Rattle.records.specs.Bytes.{byteAt, numberAt, word}
 use Rattle.records.specs.Tags.{tagOf, setupLength, dealingLength, complaintLength, challengesLength, shiftedLength, responseLength, sharesFrom}
 use Rattle.refusals.specs.Refusals.{setupRefusal, headRefusal, dealingRefusal, maskFits, complaintRefusal, scalarsRefusal, challengesRefusal, shiftedRefusal, responseRefusal}
-use Rattle.protocol.specs.Transcript.{dealingAt, validShare, coefficient, keyAt, combinedAt, nonce, shiftedNonce, challengeAt, responseAt, passes, exponent, productOver, dealerFactor}
+use Rattle.protocol.specs.Transcript.{dealingAt, validShare, coefficient, keyAt, combinedAt, nonce, shiftedElement, shiftedNonce, challengeAt, responseAt, passes, exponent, productOver, dealerFactor}
 use Rattle.arrays.specs.Arrays.{base, cell}
 use Rattle.dealing.specs.Definitions.{noSetup, noDealings, setupOf, dealingNumber, wrongShares, withDealing, mayBlame, keyIn}
 use Rattle.complaint.specs.Definitions.{noComplaints, complaintNumber, withComplaint, complaintStage, maskBy, blamedBy, unblamed}
@@ -38,7 +38,7 @@ unfolding flatten
     byteAt numberAt word
     tagOf setupLength dealingLength complaintLength challengesLength shiftedLength responseLength sharesFrom
     setupRefusal headRefusal dealingRefusal maskFits complaintRefusal scalarsRefusal challengesRefusal shiftedRefusal responseRefusal
-    dealingAt validShare coefficient keyAt combinedAt nonce shiftedNonce challengeAt responseAt passes exponent productOver dealerFactor
+    dealingAt validShare coefficient keyAt combinedAt nonce shiftedElement shiftedNonce challengeAt responseAt passes exponent productOver dealerFactor
     base cell
     noSetup noDealings setupOf dealingNumber wrongShares withDealing mayBlame keyIn
     noComplaints complaintNumber withComplaint complaintStage maskBy blamedBy unblamed

@@ -16,7 +16,7 @@ use Rattle.interpolation.specs.Rows.{listed, weightsOf, productOf}
 use Rattle.records.specs.Parameters.{cells, quorum, batch}
 use Rattle.records.specs.RecordLaws.{Bounds, cells-max}
 use Rattle.text.specs.LineLaws.{line-max}
-use Rattle.protocol.specs.Transcript.{nonce, shiftedNonce}
+use Rattle.protocol.specs.Transcript.{nonce, shiftedElement, shiftedNonce}
 use Rattle.arrays.specs.Arrays.{cell, commitmentIn, elements}
 use Rattle.combination.specs.Combination.{combinedValue}
 use Rattle.response.specs.Definitions.{transcript}
@@ -91,7 +91,7 @@ nonce-is r u k b = combined-is (r .setup) (r .dealings) (r .complaints) (r .chal
 
 -- and shifted
 pub shifted-is : (r : Run) (u k : ℕ) {v d : Element} → v ≡ nonce (transcriptOf r) u k → d ≡ raise generator (r .challenges .shift) → product v d ≡ shiftedNonce (transcriptOf r) u k
-unfolding shiftedNonce transcriptOf transcript
+unfolding shiftedNonce shiftedElement transcriptOf transcript
 shifted-is r u k p q = ap₂ product p q
 
 -- φ(u,k) stands u outer, below the array's end

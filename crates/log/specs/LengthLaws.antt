@@ -39,7 +39,7 @@ least-at SU r s h =
 least-at DE r s h = past-setup r h (dealingLength (r .setup .n) (r .setup .t) (r .setup .a)) (λ b. omega (arith, quorum-pos b))
 least-at VE r s h = past-setup r h (complaintLength (r .setup .n)) (λ b. omega arith)
 least-at CH r s h = past-setup r h (challengesLength (r .setup .n) (r .setup .t) (r .setup .a)) (λ b. omega (arith, mul-le-mul (b .a-pos) (batch-pos b)))
-least-at CS r s h = past-setup r h (shiftedLength (r .setup .n) (r .setup .t) (r .setup .a)) (λ b. omega arith)
+least-at CS r s h = past-setup r h _ (λ b. omega (arith, mul-le-mul (b .a-pos) (batch-pos b)))
 least-at RE r s h = past-setup r h (responseLength (r .setup .n) (r .setup .t)) (λ b. omega (arith, batch-pos b))
 least-at unknown r s h = λ p. absurd (omega arith)
 

@@ -1,11 +1,11 @@
 -- The stage of the run that a list makes is the one that its accepted records bring. Assumes nothing.
-use mathlib.Core.Path.{_≡_, refl, ap₂}
+use mathlib.Core.Path.{_≡_, refl, ap, ap₂}
 use mathlib.Core.Bool.{true, false}
 use mathlib.Core.List.{List}
 use Prim.Native.Nat.{ℕ, zero, suc, _+_, _-_, _<_}
 use native.Mathlib.Omega.{arith}
 use lib.ListN.{length}
-use borrow.Author.Tests.{lt-ltb, le-ltb, ne-eqb}
+use borrow.Author.Tests.{lt-ltb, le-ltb, eq-eqb, ne-eqb}
 use Rattle.records.specs.Parameters.{quorum}
 use Rattle.records.specs.Tags.{Tag, SU, DE, VE, CH, CS, RE}
 use Rattle.response.specs.Definitions.{transcript}
@@ -60,7 +60,9 @@ module _ (l : List (List ℕ)) where
 
     no-challenges : after l .stage ≡ 3 → unchallenged (accepted l) ≡ true
     unfolding unchallenged
-    no-challenges e = let early = made-live l p .stage .early (omega arith) in rw (early .0, early .1)
+    no-challenges e =
+        let early = made-live l p .stage .early (omega arith) in
+        eq-eqb (number CH + number CS) 0 (omega (arith, ap length (early .0), ap length (early .1)))
 
     challenged : 3 < after l .stage → after l .stage < 6 → unchallenged (accepted l) ≡ false
     unfolding unchallenged

@@ -4,11 +4,11 @@ use mathlib.Core.Bool.{true}
 use Prim.Native.Nat.{ℕ, _≤_, _<_}
 use Rattle.field.specs.declared.Scalar.{Scalar}
 use Rattle.field.specs.declared.Element.{Element}
-use Rattle.field.specs.Definitions.{generator, product, powered, raise}
+use Rattle.field.specs.Definitions.{powered}
 use Rattle.interpolation.specs.Definitions.{slot, committedPoint, elementAt}
 use Rattle.interpolation.specs.RowLaws.{elementAt-cong}
 use Rattle.records.specs.Parameters.{quorum}
-use Rattle.protocol.specs.Transcript.{Transcript, dealingAt, exponent, productOver, combinedAt, nonce, shiftedNonce, dealerFactor}
+use Rattle.protocol.specs.Transcript.{Transcript, dealingAt, exponent, productOver, combinedAt, nonce, shiftedElement, shiftedNonce, dealerFactor}
 use Rattle.protocol.specs.ProductLaws.{productOver-cong}
 use Rattle.protocol.specs.Alike.{Alike}
 
@@ -51,4 +51,4 @@ module _ (w z : Transcript) (h : Alike w z) where
 
   pub shifted-same : (u k : ℕ) → shiftedNonce w u k ≡ shiftedNonce z u k
   unfolding shiftedNonce
-  shifted-same u k = ap₂ (λ (v : Element) (d : Scalar). product v (raise generator d)) (nonce-same u k) (h .shift-same)
+  shifted-same u k = ap₂ shiftedElement (h .shift-same) (nonce-same u k)

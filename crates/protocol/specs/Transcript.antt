@@ -43,6 +43,10 @@ coefficient i u = power (scalar i) (u - 1)
 unfoldable pub productOver : ℕ → (ℕ → Bool) → (ℕ → Element) → Element
 productOver n set f = fold product identity n (λ i. pick (set (i + 1)) (f (i + 1)) identity)
 
+-- V × 4^δ
+unfoldable pub shiftedElement : Scalar → Element → Element
+shiftedElement shift v = product v (raise generator shift)
+
 module _ (w : Transcript) where
   -- dealer i's factor of C_u(x): C_i(x)^(i^(u-1)), i being the dealer's number
   unfoldable pub dealerFactor : ℕ → Scalar → ℕ → Element
@@ -58,7 +62,7 @@ module _ (w : Transcript) where
 
   -- R(u,k) × 4^δ: what is printed for R(u,k)
   unfoldable pub shiftedNonce : ℕ → ℕ → Element
-  shiftedNonce u k = product (nonce u k) (raise generator (w .shift))
+  shiftedNonce u k = shiftedElement (w .shift) (nonce u k)
 
   -- E_u(x): degree at most a-1, E_u(1-k) = e(u,k)
   unfoldable pub challengeAt : ℕ → Scalar → Scalar

@@ -7,7 +7,7 @@ use mathlib.Core.Path.{_≡_, refl, sym, ap, ap₂, _∙_}
 use Rattle.interpolation.specs.PointLaws.{slot-is}
 use Rattle.records.specs.RecordLaws.{bounds-test}
 use Rattle.field.specs.Definitions.{product}
-use Rattle.protocol.specs.Transcript.{nonce, shiftedNonce, combinedAt}
+use Rattle.protocol.specs.Transcript.{nonce, shiftedElement, shiftedNonce, combinedAt}
 use Rattle.answers.specs.declared.Nonce.the-variants as N
 use Rattle.response.specs.Definitions.{transcript}
 use Rattle.run.specs.Runs.{stageOf, transcriptOf}
@@ -78,7 +78,7 @@ found c =
     c .combined-at .ensures (a .run .challenges) ∙ ap (combinedAt (transcriptOf (a .run)) (a .u)) (c .before .point .ensures ∙ sym (slot-is (a .k)))
 
 returns-4 : tie.Need-returns-4
-unfolding nonceOf shiftedNonce transcriptOf transcript
+unfolding nonceOf shiftedNonce shiftedElement transcriptOf transcript
 returns-4 c =
     let made = c .before .before .before in
     let asked = made .before .before .before .before .before in

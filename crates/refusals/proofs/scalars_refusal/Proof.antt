@@ -1,6 +1,8 @@
 -- `scalars_refusal` meets its contract: the code asks what the definition asks, in its order. Assumes nothing.
-use mathlib.Core.Path.{refl, sym}
-use mathlib.Core.Bool.{and-false}
+use mathlib.Core.Path.{refl, sym, ap, ap₂, _∙_}
+use mathlib.Core.Bool.{Bool, _&&_, and-false}
+use lib.Dec.{eqb}
+use Rattle.records.specs.Bytes.{byteAt}
 use borrow.Author.Needs.{needs}
 use borrow.Author.Tests.{eq-eqb, ne-eqb}
 use Rattle.lists.specs.TestLaws.{Left, left, test-number}
@@ -23,20 +25,24 @@ byte-requires c κs = search needs
 
 returns-2 : tie.Need-returns-2
 unfolding scalarsRefusal
-returns-2 c = test-number _ _ _ (long (c .before .before)) (rw (is-not (c .before .byte .ensures) (c .if2 .taken)))
+returns-2 c =
+    let s = c .before .before .before .before .args .s .now in
+    test-number _ _ _ (long (c .before .before)) (ap (λ (b : Bool). b && eqb (byteAt s 3) 0) (is-not (c .before .byte .ensures) (c .if2 .taken)))
 
 byte-requires-2 : tie.Need-byte-requires-2
 byte-requires-2 c κs = search needs
 
 returns-3 : tie.Need-returns-3
 unfolding scalarsRefusal
-returns-3 c = test-number _ _ _ (long (c .before .before .before .before)) (rw (is-not (c .before .byte2 .ensures) (c .if3 .taken), and-false))
+returns-3 c =
+    let first = eqb (byteAt (c .before .before .before .before .before .before .args .s .now) 2) 0 in
+    test-number _ _ _ (long (c .before .before .before .before)) (ap (λ (b : Bool). first && b) (is-not (c .before .byte2 .ensures) (c .if3 .taken)) ∙ and-false first)
 
 reserved : (c : tie.Else3) → unfold scalarsRefusal in (Left _ _ _ (long (c .before .before .before .before)))
 unfolding scalarsRefusal
 reserved c =
     let first = c .before .before in
-    left _ _ _ (long (first .before .before)) (rw (is (first .before .byte .ensures) (first .if2 .left), is (c .before .byte2 .ensures) (c .if3 .left)))
+    left _ _ _ (long (first .before .before)) (ap₂ _&&_ (is (first .before .byte .ensures) (first .if2 .left)) (is (c .before .byte2 .ensures) (c .if3 .left)))
 
 all-scalars-requires : tie.Need-all-scalars-requires
 all-scalars-requires c κs = search needs
