@@ -1,5 +1,5 @@
 // Prints cases A to L of document 01, each on a line that begins with its letter: what the run replies to the records of the case, one number each, or what the
-// arithmetic gives; last the replies to records that are none.
+// arithmetic gives; then the worked log with a shift (document 02); last the replies to records that are none.
 use console::end_line;
 use console::print_number;
 use console::print_test;
@@ -69,20 +69,32 @@ fn deal(second_right: bool, third_right: bool) -> Run {
     deal_third(deal_second(begun, second_right), third_right)
 }
 
-// Up to the challenges, with a complaint row from holder 2.
-fn challenge(dealt: Run, row: &[u8]) -> Run {
+// Up to the complaint rows, with one from holder 2.
+fn hold(dealt: Run, row: &[u8]) -> Run {
     let held = give(dealt, row);
     let more = give(held, b"VE\x03\x00\x00\x00\x00\x00");
-    let all = give(more, b"VE\x04\x00\x00\x00\x00\x00");
-    give(all, b"CH\x00\x00\x00\x00\x00\x01\x00\x00\x00\x02")
+    give(more, b"VE\x04\x00\x00\x00\x00\x00")
+}
+
+// Up to the challenges.
+fn challenge(dealt: Run, row: &[u8]) -> Run {
+    give(
+        hold(dealt, row),
+        b"CH\x00\x00\x00\x00\x00\x01\x00\x00\x00\x02",
+    )
+}
+
+// The response rows of holders 2 and 3 in the worked log.
+fn respond(run: Run) -> Run {
+    let one = give(run, b"RE\x02\x00\x00\x00\x00\x0a\x00\x00\x00\x16");
+    give(one, b"RE\x03\x00\x00\x00\x00\x0d\x00\x00\x00\x1c")
 }
 
 // (A) the worked log; (B), (C): rows that are refused right after its challenges.
 fn worked() {
     begin_line(b"A ");
     let run = challenge(deal(true, true), b"VE\x02\x00\x00\x00\x00\x00");
-    let one = give(run, b"RE\x02\x00\x00\x00\x00\x0a\x00\x00\x00\x16");
-    say(give(one, b"RE\x03\x00\x00\x00\x00\x0d\x00\x00\x00\x1c"));
+    say(respond(run));
     begin_line(b"B ");
     give(run, b"RE\x01\x00\x00\x00\x00\x00\x00\x00\x00\x00");
     end_line();
@@ -166,6 +178,19 @@ fn too_many_blamed() {
     say(challenge(deal(false, false), b"VE\x02\x00\x00\x00\x00\x06"));
 }
 
+// The worked log with CS in place of CH, and a shift of 5: R and φ of (1,1) before the challenges and after them, and all at the end.
+fn shifted() {
+    begin_line(b"shift ");
+    let held = hold(deal(true, true), b"VE\x02\x00\x00\x00\x00\x00");
+    replies::print_signature(held, 1, 1);
+    let run = give(
+        held,
+        b"CS\x00\x00\x00\x00\x00\x05\x00\x00\x00\x01\x00\x00\x00\x02",
+    );
+    replies::print_signature(run, 1, 1);
+    say(respond(run));
+}
+
 // Records that are none: no byte, one byte, a tag alone, no tag, and a setup that is late.
 fn senseless() {
     begin_line(b"none ");
@@ -186,5 +211,6 @@ fn main() {
     scalars();
     arithmetic();
     too_many_blamed();
+    shifted();
     senseless();
 }
