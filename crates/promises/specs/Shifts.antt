@@ -4,7 +4,7 @@ use mathlib.Core.Path.{_≡_, refl, ap, _∙_}
 use mathlib.Core.List.{List, [], _∷_}
 use Prim.Native.Nat.{ℕ, _<_, zero, suc}
 use native.Mathlib.Omega.{arith}
-use Rattle.field.specs.Definitions.{scalar, plus}
+use Rattle.field.specs.Definitions.{plus}
 use Rattle.field.specs.ScalarLaws.{plus-zero}
 use Rattle.interpolation.specs.PointLaws.{scalarAt-range}
 use Rattle.records.specs.Bytes.{word}

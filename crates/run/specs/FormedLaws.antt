@@ -20,7 +20,7 @@ use Rattle.run.specs.declared.Reply.{Reply}
 use Rattle.dealing.specs.Definitions.{noSetup, noDealings, setupOf, withDealing, dealingNumber}
 use Rattle.complaint.specs.Definitions.{noComplaints, blamedBy, withComplaint, complaintStage, complaintNumber}
 use Rattle.response.specs.declared.Challenges.{Challenges}
-use Rattle.response.specs.Definitions.{noResponses, withChallenges, withShifted, withResponse, responseNumber}
+use Rattle.response.specs.Definitions.{noResponses, withResponse, responseNumber}
 use Rattle.run.specs.Runs.{setChallenges, begun, fresh, stageOf}
 use Rattle.run.specs.declared.Handler.{Handler}
 use Rattle.run.specs.declared.Handler.the-variants.{TakeSetup, TakeDealing, TakeComplaint, TakeChallenges, TakeShifted, TakeResponse}

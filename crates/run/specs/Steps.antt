@@ -1,5 +1,5 @@
 -- What a record does to a run (document 01, "The run", "From the input", "From the state"; CS is of document 02, request 2.1).
-use Prim.Native.Nat.{ℕ, _+_, _*_, _-_}
+use Prim.Native.Nat.{ℕ, _+_, _-_}
 use mathlib.Core.List.{List, [], _∷_}
 use lib.Dec.{eqb}
 use Rattle.lists.specs.Tests.{pick}

@@ -1,8 +1,11 @@
 -- `record_length` meets its contract: each way of the code is one tag of the definition. Assumes nothing.
-use mathlib.Core.Path.{_≡_, sym, ap, _∙_}
+use mathlib.Core.Path.{_≡_, refl, sym, ap, _∙_}
+use mathlib.Core.Bool.{Bool}
 use Prim.Native.Nat.{ℕ}
 use borrow.Author.Needs.{needs}
 use borrow.Author.Tests.{le-leb, lt-leb, ne-eqb}
+use lib.Dec.{eqb}
+use Rattle.lists.specs.Tests.{pick}
 use Rattle.records.specs.Tags.{Tag, SU, DE, VE, CH, CS, RE, unknown, code, decoded, tagOf}
 use Rattle.records.specs.RecordLaws.{decoded-code}
 use Rattle.log.specs.Cutting.{lengthAt, lengthOf}
@@ -19,6 +22,18 @@ tag-none : {k : ℕ} (g : Tag) → k ≡ code g → (k ≡ 1 → ⊥) → (k ≡
 unfolding decoded
 tag-none {k} g p d1 d2 d3 d4 d5 d6 =
     sym (decoded-code g) ∙ ap decoded (sym p) ∙ simp (ne-eqb k 1 d1, ne-eqb k 2 d2, ne-eqb k 3 d3, ne-eqb k 4 d4, ne-eqb k 5 d5, ne-eqb k 6 d6)
+
+-- past stage 0, the length by the tag that was found
+by-tag : (t : tie.After-tag) (g : Tag) {m n : ℕ} →
+    let a = t .before .before .args in
+    t .tag .result ≡ code g → (a .run .stage ≡ 0 → ⊥) → n ≡ m → lengthAt g (a .run) (a .rest .now) ≡ pick (eqb (a .run .stage) 0) 0 m → n ≡ lengthOf (a .run) (a .rest .now)
+unfolding lengthOf
+by-tag t g {m} e d f at =
+    let a = t .before .before .args in
+    f
+    ∙ sym (ap (λ (b : Bool). pick b 0 m) (ne-eqb (a .run .stage) 0 d))
+    ∙ sym at
+    ∙ sym (ap (λ (k : Tag). lengthAt k (a .run) (a .rest .now)) (tag-is (tagOf (a .rest .now)) g (t .tag .ensures) e))
 
 tag-requires : tie.Need-tag-requires
 tag-requires c κs = search needs
@@ -70,39 +85,24 @@ shifted-length-requires : tie.Need-shifted-length-requires
 shifted-length-requires c κs = search needs
 
 returns-4 : tie.Need-returns-4
-unfolding lengthOf lengthAt
-returns-4 c =
-    let m = c .before in
-    let t = m .before .before .before in
-    rw (tag-is (tagOf (t .before .before .args .rest .now)) DE (t .tag .ensures) (m .match .keys1), ne-eqb _ 0 (m .before .if3 .left)) (c .dealing-length .ensures)
+unfolding lengthAt
+returns-4 c = by-tag (c .before .before .before .before) DE (c .before .match .keys1) (c .before .before .if3 .left) (c .dealing-length .ensures) refl
 
 returns-5 : tie.Need-returns-5
-unfolding lengthOf lengthAt
-returns-5 c =
-    let m = c .before in
-    let t = m .before .before .before in
-    rw (tag-is (tagOf (t .before .before .args .rest .now)) VE (t .tag .ensures) (m .match .keys2), ne-eqb _ 0 (m .before .if3 .left)) (c .complaint-length .ensures)
+unfolding lengthAt
+returns-5 c = by-tag (c .before .before .before .before) VE (c .before .match .keys2) (c .before .before .if3 .left) (c .complaint-length .ensures) refl
 
 returns-6 : tie.Need-returns-6
-unfolding lengthOf lengthAt
-returns-6 c =
-    let m = c .before in
-    let t = m .before .before .before in
-    rw (tag-is (tagOf (t .before .before .args .rest .now)) CH (t .tag .ensures) (m .match .keys3), ne-eqb _ 0 (m .before .if3 .left)) (c .challenges-length .ensures)
+unfolding lengthAt
+returns-6 c = by-tag (c .before .before .before .before) CH (c .before .match .keys3) (c .before .before .if3 .left) (c .challenges-length .ensures) refl
 
 returns-7 : tie.Need-returns-7
-unfolding lengthOf lengthAt
-returns-7 c =
-    let m = c .before in
-    let t = m .before .before .before in
-    rw (tag-is (tagOf (t .before .before .args .rest .now)) RE (t .tag .ensures) (m .match .keys4), ne-eqb _ 0 (m .before .if3 .left)) (c .response-length .ensures)
+unfolding lengthAt
+returns-7 c = by-tag (c .before .before .before .before) RE (c .before .match .keys4) (c .before .before .if3 .left) (c .response-length .ensures) refl
 
 returns-8 : tie.Need-returns-8
-unfolding lengthOf lengthAt
-returns-8 c =
-    let m = c .before in
-    let t = m .before .before .before in
-    rw (tag-is (tagOf (t .before .before .args .rest .now)) CS (t .tag .ensures) (m .match .keys5), ne-eqb _ 0 (m .before .if3 .left)) (c .shifted-length .ensures)
+unfolding lengthAt
+returns-8 c = by-tag (c .before .before .before .before) CS (c .before .match .keys5) (c .before .before .if3 .left) (c .shifted-length .ensures) refl
 
 returns-9 : tie.Need-returns-9
 unfolding lengthOf lengthAt

@@ -1,7 +1,6 @@
 -- `shifted_length` meets its contract: CH with one number more. Assumes nothing.
 use borrow.Author.Needs.{needs}
 use native.Mathlib.Omega.{arith}
-use mathlib.Core.Path.{_≡_}
 use Prim.Native.Nat.{_<_}
 use Rattle.records.specs.Parameters.{batch}
 use Rattle.records.specs.Tags.{challengesLength, shiftedLength}
