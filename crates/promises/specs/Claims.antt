@@ -17,7 +17,8 @@ use Rattle.records.specs.Tags.{SU, DE, VE, CH, CS, RE, tagOf, sharesFrom}
 use Rattle.refusals.specs.Refusals.{complaintRefusal}
 use Rattle.text.specs.Lines.{feed, line, setText}
 use Rattle.protocol.specs.Transcript.{shiftedNonce, validShare}
-use Rattle.run.specs.Runs.{kept, stageOf}
+use Rattle.run.specs.declared.Run.{Run}
+use Rattle.run.specs.Runs.{setChallenges, kept, stageOf}
 use Rattle.run.specs.Steps.{after}
 use Rattle.answers.specs.Answers.{noSets, setsOf, nonceOf, phiAnswer, nonceValues, phiValues}
 use Rattle.closing.specs.Closing.{holdWord, qualWord, badWord, endWord, sigLine}
@@ -49,6 +50,12 @@ pub record Rows (l : List (List ℕ)) : Type 0 where
   pub responses : length (ofTag RE (accepted l)) ≡ quorum (read (accepted l) .t) (read (accepted l) .a)
   pub responders-differ : Distinct sender (ofTag RE (accepted l))
   pub responders-held : All (λ s. hold (accepted l) (sender s) ≡ true) (ofTag RE (accepted l))
+
+-- ---- the shift
+
+-- a run with another shift
+unfoldable pub reshifted : Scalar → Run → Run
+reshifted shift r = setChallenges r (r .stage) (record { shift = shift; numbers = r .challenges .numbers })
 
 -- ---- what a run answers
 

@@ -1,19 +1,31 @@
 -- What the shift is of a list (document 02, request 2.1): none before stage 4 and none with a CH, where R(u,k) and φ(u,k) are those of document 01; and
--- a CS whose shift is 0 is alike to a CH with the same challenges. Assumes nothing.
-use mathlib.Core.Path.{_≡_, refl, ap, _∙_}
+-- a CS whose shift is 0 is alike to a CH with the same challenges. Response rows are taken and written alike whatever the shift. Assumes nothing.
+use mathlib.Core.Path.{_≡_, refl, sym, ap, _∙_}
+use mathlib.Core.Bool.{Bool, true, false}
 use mathlib.Core.List.{List, [], _∷_}
 use Prim.Native.Nat.{ℕ, _<_, zero, suc}
 use native.Mathlib.Omega.{arith}
+use lib.Dec.{eqb}
+use Rattle.lists.specs.Tests.{pick}
+use Rattle.field.specs.declared.Scalar.{Scalar}
 use Rattle.field.specs.Definitions.{plus}
 use Rattle.field.specs.ScalarLaws.{plus-zero}
 use Rattle.interpolation.specs.PointLaws.{scalarAt-range}
 use Rattle.records.specs.Bytes.{word}
-use Rattle.records.specs.Tags.{SU, DE, VE, CH, CS}
-use Rattle.protocol.specs.Transcript.{nonce, shiftedNonce}
+use Rattle.records.specs.Tags.{SU, DE, VE, CH, CS, RE, tagOf}
+use Rattle.protocol.specs.Transcript.{nonce, shiftedNonce, dealerFactor, combinedAt, challengeAt, responseAt, passes}
 use Rattle.protocol.specs.ShiftLaws.{shift-none}
 use Rattle.protocol.specs.Alike.{Alike}
-use Rattle.run.specs.Steps.{after}
+use Rattle.response.specs.Definitions.{transcript, responseNumber}
+use Rattle.run.specs.declared.Run.{Run}
+use Rattle.run.specs.declared.Reply.{Reply}
+use Rattle.run.specs.declared.Handler.the-variants.{TakeResponse, Refuse}
+use Rattle.run.specs.Runs.{wellFormed, stageOf, transcriptOf}
+use Rattle.run.specs.Steps.{takenAt, atStage, handlerAt, handled, afterResponse, stepOf, after}
+use Rattle.run.specs.StepLaws.{step-tag, answered-number}
+use Rattle.writers.specs.Writers.{sharesRefused, responseRefused, responseFor, responseBytes}
 use Rattle.promises.specs.Lists.{accepted, ofTag, first, dealer, bad, qualified, read, phi, shiftedPhi, challengeBy, shiftBy}
+use Rattle.promises.specs.Claims.{reshifted}
 use Rattle.promises.specs.InvariantStepLaws.{invariant-after}
 
 -- no CS is accepted before stage 4
@@ -46,3 +58,35 @@ alike-unshifted l m su de ve s z ch none cs zero-shift same =
       challenge-same = λ u k p q c d. rw (su, ch, none, cs, same);
       shift-same = rw (none, cs, zero-shift);
     }
+
+-- ---- response rows
+
+row-number : (r : Run) (shift : Scalar) (s : List ℕ) →
+    let z = reshifted shift r in
+    responseNumber (z .setup) (z .dealings) (z .complaints) (z .challenges) (z .responses) s ≡ responseNumber (r .setup) (r .dealings) (r .complaints) (r .challenges) (r .responses) s
+unfolding reshifted responseNumber transcript passes responseAt combinedAt dealerFactor challengeAt
+row-number r shift s = refl
+
+-- a run with another shift answers an RE with the same number
+pub row-any-shift : (r : Run) (shift : Scalar) (s : List ℕ) → tagOf s ≡ RE → stepOf (reshifted shift r) s .number ≡ stepOf r s .number
+unfolding reshifted handlerAt atStage handled stageOf wellFormed
+row-any-shift r shift s e =
+    ap (λ (y : Reply). y .number) (step-tag RE z s e)
+    ∙ go (eqb (stageOf r) (takenAt RE))
+    ∙ sym (ap (λ (y : Reply). y .number) (step-tag RE r s e))
+  where
+    z : Run
+    z = reshifted shift r
+
+    go : (b : Bool) → handled (pick b TakeResponse (Refuse 11)) z s .number ≡ handled (pick b TakeResponse (Refuse 11)) r s .number
+    go true =
+        answered-number z (responseNumber (z .setup) (z .dealings) (z .complaints) (z .challenges) (z .responses) s) (afterResponse z s)
+        ∙ row-number r shift s
+        ∙ sym (answered-number r (responseNumber (r .setup) (r .dealings) (r .complaints) (r .challenges) (r .responses) s) (afterResponse r s))
+    go false = refl
+
+-- and from a run with another shift the writer refuses and makes the same
+pub written-any-shift : (r : Run) (shift : Scalar) (j key : ℕ) (shares : List ℕ) (room : ℕ)
+    → (responseRefused (reshifted shift r) j key shares room ≡ responseRefused r j key shares room) × (responseBytes (reshifted shift r) j key shares ≡ responseBytes r j key shares)
+unfolding reshifted responseRefused sharesRefused stageOf wellFormed responseBytes responseFor challengeAt transcriptOf transcript
+written-any-shift r shift j key shares room = (refl, refl)
