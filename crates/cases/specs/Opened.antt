@@ -16,14 +16,16 @@ use Rattle.protocol.specs.Transcript.{dealingAt, validShare, coefficient, keyAt
 use Rattle.arrays.specs.Arrays.{base, cell}
 use Rattle.dealing.specs.Definitions.{noSetup, noDealings, setupOf, dealingNumber, wrongShares, withDealing, mayBlame, keyIn}
 use Rattle.complaint.specs.Definitions.{noComplaints, complaintNumber, withComplaint, complaintStage, maskBy, blamedBy, unblamed}
-use Rattle.response.specs.Definitions.{noChallenges, challengesFrom, withChallenges, withShifted, noResponses, phiOf, shiftedPhiOf, responseNumber, withResponse, transcript, signaturesOf}
+use Rattle.response.specs.Definitions.{noResponses, phiOf, shiftedPhiOf, responseNumber, withResponse, transcript, signaturesOf}
+use Rattle.challenge.specs.Definitions.{noChallenges, challengesFrom, withChallenges, withShifted}
 use Rattle.run.specs.Runs.{noScalars, begun, fresh, wellFormed, stageOf, transcriptOf, kept}
 use Rattle.answers.specs.Answers.{setsOf, unblamedOf, badOf, noSets, keptSets}
 use Rattle.log.specs.Cutting.{lengthAt, lengthOf, whole, cutFrom, recordsOf, runOf}
 use Rattle.text.specs.Lines.{decimalTo, decimal, field, fields, line, setText, setLine}
 use Rattle.closing.specs.Closing.{signatureLine, signatureLines, closing}
 use Rattle.log.specs.Report.{refusalLine, refusalLines, reportOf}
-use Rattle.run.specs.Steps.{afterSetup, afterDealing, afterComplaint, afterChallenges, afterShifted, withRow, finished, afterResponse, takenAt, atStage, handlerAt, handled, stepOf, afterFrom, after}
+use Rattle.run.specs.Steps.{afterSetup, afterDealing, afterComplaint, afterChallenges, afterShifted, withRow, finished, afterResponse, handled, stepOf, afterFrom, after}
+use Rattle.stages.specs.Definitions.{takenAt, atStage, handlerAt}
 
 -- `unfolding opened` opens what this line names
 unfoldable pub opened : Bool

@@ -21,11 +21,12 @@ use Rattle.dealing.specs.Definitions.{dealingNumber}
 use Rattle.complaint.specs.Definitions.{complaintNumber}
 use Rattle.response.specs.Definitions.{responseNumber}
 use Rattle.run.specs.declared.Run.{Run}
-use Rattle.run.specs.declared.Handler.{Handler}
-use Rattle.run.specs.declared.Handler.the-variants.{TakeSetup, TakeDealing, TakeComplaint, TakeChallenges, TakeShifted, TakeResponse, Refuse}
+use Rattle.stages.specs.declared.Handler.{Handler}
+use Rattle.stages.specs.declared.Handler.the-variants.{TakeSetup, TakeDealing, TakeComplaint, TakeChallenges, TakeShifted, TakeResponse, Refuse}
 use Rattle.run.specs.Runs.{fresh, wellFormed, stageOf}
 use Rattle.run.specs.RunLaws.{stage-none, stage-past}
-use Rattle.run.specs.Steps.{takenAt, atStage, handlerAt, refused, answered, handled, stepOf}
+use Rattle.run.specs.Steps.{refused, answered, handled, stepOf}
+use Rattle.stages.specs.Definitions.{takenAt, atStage, handlerAt}
 use Rattle.run.specs.StepLaws.{step-tag, at-stage, off-stage}
 use Rattle.run.specs.RefusalLaws.{refusal-keeps}
 use Rattle.log.specs.Cutting.{lengthAt, lengthOf, whole, recordsOf}

@@ -10,7 +10,8 @@ use Rattle.lists.specs.Tests.{pick}
 use Rattle.records.specs.Tags.{SU, unknown, tagOf}
 use Rattle.run.specs.declared.Run.{Run}
 use Rattle.run.specs.Runs.{stageOf}
-use Rattle.run.specs.Steps.{afterFrom, takenAt}
+use Rattle.run.specs.Steps.{afterFrom}
+use Rattle.stages.specs.Definitions.{takenAt}
 use Rattle.log.specs.Cutting.{lengthOf, whole, cutFrom}
 use Rattle.log.specs.Report.{refusalLines}
 

@@ -23,11 +23,12 @@ use Rattle.run.specs.declared.Run.{Run}
 use Rattle.run.specs.Runs.{stageOf, transcriptOf}
 use Rattle.dealing.specs.Definitions.{dealingNumber, wrongShares, mayBlame}
 use Rattle.complaint.specs.Definitions.{complaintNumber}
-use Rattle.run.specs.Steps.{afterSetup, afterDealing, afterComplaint, afterChallenges, afterShifted, afterResponse, takenAt, atStage, handlerAt, handled, stepOf, after}
+use Rattle.run.specs.Steps.{afterSetup, afterDealing, afterComplaint, afterChallenges, afterShifted, afterResponse, handled, stepOf, after}
+use Rattle.stages.specs.Definitions.{takenAt, atStage, handlerAt}
 use Rattle.run.specs.StepLaws.{step-taken, stage-case, answered-number}
 use Rattle.run.specs.declared.Reply.{Reply}
-use Rattle.run.specs.declared.Handler.{Handler}
-use Rattle.run.specs.declared.Handler.the-variants.{TakeSetup, TakeDealing, TakeComplaint, TakeChallenges, TakeShifted, TakeResponse}
+use Rattle.stages.specs.declared.Handler.{Handler}
+use Rattle.stages.specs.declared.Handler.the-variants.{TakeSetup, TakeDealing, TakeComplaint, TakeChallenges, TakeShifted, TakeResponse}
 use Rattle.response.specs.Definitions.{transcript, responseNumber}
 use Rattle.writers.specs.Writers.{complaintBytes}
 use Rattle.writers.specs.Accepted.{complaint-mask}

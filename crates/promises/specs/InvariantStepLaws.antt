@@ -25,14 +25,16 @@ use Rattle.complaint.specs.declared.Complaints.{Complaints}
 use Rattle.run.specs.declared.Run.{Run}
 use Rattle.dealing.specs.Definitions.{noDealings, setupOf, dealingNumber, withDealing}
 use Rattle.complaint.specs.Definitions.{noComplaints, complaintNumber, withComplaint, complaintStage, blamedBy}
-use Rattle.response.specs.declared.Challenges.{Challenges}
-use Rattle.response.specs.Definitions.{transcript, noChallenges, challengesFrom, withChallenges, withShifted, responseNumber, withResponse, signaturesOf}
+use Rattle.challenge.specs.declared.Challenges.{Challenges}
+use Rattle.response.specs.Definitions.{transcript, responseNumber, withResponse, signaturesOf}
+use Rattle.challenge.specs.Definitions.{noChallenges, challengesFrom, withChallenges, withShifted}
 use Rattle.run.specs.Runs.{setChallenges, noScalars, begun, fresh, stageOf, transcriptOf}
-use Rattle.run.specs.Steps.{afterSetup, afterDealing, afterComplaint, afterChallenges, afterShifted, withRow, finished, afterResponse, takenAt, atStage, handlerAt, refused, answered, handled, stepOf, afterFrom, after}
+use Rattle.run.specs.Steps.{afterSetup, afterDealing, afterComplaint, afterChallenges, afterShifted, withRow, finished, afterResponse, refused, answered, handled, stepOf, afterFrom, after}
+use Rattle.stages.specs.Definitions.{takenAt, atStage, handlerAt}
 use Rattle.run.specs.StepLaws.{stage-case, answered-case}
 use Rattle.run.specs.declared.Reply.{Reply}
-use Rattle.run.specs.declared.Handler.{Handler}
-use Rattle.run.specs.declared.Handler.the-variants.{TakeSetup, TakeDealing, TakeComplaint, TakeChallenges, TakeShifted, TakeResponse}
+use Rattle.stages.specs.declared.Handler.{Handler}
+use Rattle.stages.specs.declared.Handler.the-variants.{TakeSetup, TakeDealing, TakeComplaint, TakeChallenges, TakeShifted, TakeResponse}
 use Rattle.promises.specs.Lists.{acceptedFrom, accepted, ofTag, first, challengeBy, shiftBy}
 use Rattle.promises.specs.ListLaws.{snoc, more, ofTag-snoc}
 use Rattle.promises.specs.InvariantLaws.{ChallengesOf, Counts, AtStage, Live, Responding, Invariant, live-bounds, stage-of}

@@ -19,9 +19,10 @@ use Rattle.protocol.specs.Alike.{Alike}
 use Rattle.response.specs.Definitions.{transcript, responseNumber}
 use Rattle.run.specs.declared.Run.{Run}
 use Rattle.run.specs.declared.Reply.{Reply}
-use Rattle.run.specs.declared.Handler.the-variants.{TakeResponse, Refuse}
+use Rattle.stages.specs.declared.Handler.the-variants.{TakeResponse, Refuse}
 use Rattle.run.specs.Runs.{wellFormed, stageOf, transcriptOf}
-use Rattle.run.specs.Steps.{takenAt, atStage, handlerAt, handled, afterResponse, stepOf, after}
+use Rattle.run.specs.Steps.{handled, afterResponse, stepOf, after}
+use Rattle.stages.specs.Definitions.{takenAt, atStage, handlerAt}
 use Rattle.run.specs.StepLaws.{step-tag, answered-number}
 use Rattle.writers.specs.Writers.{sharesRefused, responseRefused, responseFor, responseBytes}
 use Rattle.promises.specs.Lists.{accepted, ofTag, first, dealer, bad, qualified, read, phi, shiftedPhi, challengeBy, shiftBy}

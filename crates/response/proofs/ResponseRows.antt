@@ -26,7 +26,7 @@ use Rattle.dealing.specs.declared.Dealings.{Dealings}
 use Rattle.dealing.specs.Definitions.{keyIn}
 use Rattle.complaint.specs.declared.Complaints.{Complaints}
 use Rattle.complaint.specs.Definitions.{unblamed}
-use Rattle.response.specs.declared.Challenges.{Challenges}
+use Rattle.challenge.specs.declared.Challenges.{Challenges}
 use Rattle.response.specs.declared.Responses.{Responses}
 use Rattle.response.specs.Definitions.{transcript, phiOf}
 use Rattle.response.specs.ResponseLaws.{combined-is}

@@ -1,5 +1,4 @@
--- The challenges, the shift and the accepted response rows (document 01, "The run"; document 02, request 2.1): when a row is taken, what is kept of it,
--- and φ.
+-- The accepted response rows (document 01, "The run"; the shift is of document 02, request 2.1): when a row is taken, what is kept of it, and φ.
 use Prim.Native.Nat.{ℕ, _+_, _*_, _-_, _/_, _%_}
 use mathlib.Core.Bool.{not, _&&_}
 use mathlib.Core.List.{List}
@@ -10,7 +9,7 @@ use Rattle.sets.specs.Masks.{has, insert, members}
 use Rattle.field.specs.declared.Scalar.{Scalar}
 use Rattle.field.specs.Definitions.{scalar, plus}
 use Rattle.interpolation.specs.Definitions.{party, slot, scalarAt}
-use Rattle.records.specs.Parameters.{places, cells, batch}
+use Rattle.records.specs.Parameters.{places, batch}
 use Rattle.records.specs.Bytes.{word, sender}
 use Rattle.refusals.specs.Refusals.{responseRefusal}
 use Rattle.protocol.specs.Transcript.{Transcript, passes}
@@ -20,7 +19,7 @@ use Rattle.dealing.specs.declared.Dealings.{Dealings}
 use Rattle.dealing.specs.Definitions.{keyIn}
 use Rattle.complaint.specs.declared.Complaints.{Complaints}
 use Rattle.complaint.specs.Definitions.{blamedBy}
-use Rattle.response.specs.declared.Challenges.{Challenges}
+use Rattle.challenge.specs.declared.Challenges.{Challenges}
 use Rattle.response.specs.declared.Responses.{Responses}
 
 -- ---- the public values of a committee, from what is kept
@@ -37,24 +36,6 @@ transcript setup d c e =
       challenge = challengeIn (setup .a) (e .numbers);
       shift = e .shift;
     }
-
--- ---- the challenges and the shift
-
--- none yet, and a shift of 0
-unfoldable pub noChallenges : Challenges
-noChallenges = record { shift = scalar 0; numbers = filled cells (scalar 0) }
-
--- the challenges of a record, u outer, from a place on
-unfoldable pub challengesFrom : Setup → Challenges → ℕ → List ℕ → List Scalar
-challengesFrom setup e from s = stored (e .numbers) 0 (setup .a * batch (setup .n) (setup .t)) (λ x. scalar (word s from x))
-
--- CH: the challenges behind two reserved bytes, and a shift of 0
-unfoldable pub withChallenges : Setup → Challenges → List ℕ → Challenges
-withChallenges setup e s = record { shift = scalar 0; numbers = challengesFrom setup e 4 s }
-
--- CS: the shift behind two reserved bytes, then the challenges
-unfoldable pub withShifted : Setup → Challenges → List ℕ → Challenges
-withShifted setup e s = record { shift = scalar (word s 4 0); numbers = challengesFrom setup e 8 s }
 
 -- ---- the response rows
 

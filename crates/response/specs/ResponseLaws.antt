@@ -19,7 +19,7 @@ use Rattle.dealing.specs.declared.Setup.{Setup}
 use Rattle.dealing.specs.declared.Dealings.{Dealings}
 use Rattle.complaint.specs.declared.Complaints.{Complaints}
 use Rattle.complaint.specs.Definitions.{blamedBy, unblamed}
-use Rattle.response.specs.declared.Challenges.{Challenges}
+use Rattle.challenge.specs.declared.Challenges.{Challenges}
 use Rattle.response.specs.Definitions.{transcript}
 
 -- their values are combined for u, and interpolated at x

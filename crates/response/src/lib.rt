@@ -1,4 +1,4 @@
-// The challenges with the shift, and the accepted response rows: the test of a row, what one more adds, and φ and R from what is kept.
+// The accepted response rows: the test of a row, what one more adds, and φ and R from what is kept.
 ghost use mathlib.Core.Path.{_≡_};
 ghost use mathlib.Core.Bool.{true};
 ghost use Prim.Native.Nat.{_+_, _*_, _≤_};
@@ -10,8 +10,9 @@ ghost use Rattle.records.specs.Bytes.{word, sender};
 ghost use Rattle.protocol.specs.Transcript.{combinedAt, passes};
 ghost use Rattle.interpolation.specs.Rows.{basisOf};
 ghost use Rattle.arrays.specs.Arrays.{memberPoints};
-ghost use Rattle.response.specs.declared.Challenges.{Challenges};
-ghost use Rattle.response.specs.Definitions.{transcript, challengesFrom, withChallenges, withShifted, responseNumber, withResponse, phiOf, signaturesOf};
+ghost use Rattle.challenge.specs.declared.Challenges.{Challenges};
+ghost use Rattle.response.specs.Definitions.{transcript, responseNumber, withResponse, phiOf, signaturesOf};
+use challenge::Challenges;
 use complaint::Complaints;
 use dealing::Dealings;
 use dealing::Setup;
@@ -22,31 +23,11 @@ use records::CELLS;
 use records::PLACES;
 use records::STRIDE;
 
-// The challenges of the accepted CH or CS, u outer, and the shift δ: that of the CS, and 0 with a CH or before either.
-pub struct Challenges {
-    pub shift: Scalar,
-    pub numbers: [Scalar; CELLS],
-}
-
 // The accepted response rows. Holder j's numbers stand from (j - 1) × STRIDE.
 pub struct Responses {
     pub count: u8,
     pub responders: u64,
     pub numbers: [Scalar; PLACES],
-}
-
-// The list with a record's challenges, which stand from a place on.
-fn load_challenges(list: [Scalar; CELLS], bytes: &[u8], from: u16, count: u16) -> [Scalar; CELLS]
-    ensures { λ r. ⌜ r ≡ stored list 0 count (λ x. scalar (word (now (bytes .entry)) from x)) ⌝ }
-{
-    let mut next = list;
-    for x in 0..count {
-        let at = x as usize;
-        if at < CELLS {
-            next[at] = Scalar(records::word(bytes, from, x));
-        }
-    }
-    next
 }
 
 // The list with a row's response numbers from a place on.
@@ -124,37 +105,6 @@ pub fn combined_at(
     interpolation::committed_points(setup.a, quorum)
         .weights(x)
         .product(values)
-}
-
-impl Challenges {
-    // The challenges of a record, which stand from a place on.
-    fn loaded(self, setup: Setup, bytes: &[u8], from: u16) -> [Scalar; CELLS]
-        ensures { λ r. ⌜ r ≡ challengesFrom setup self from (now (bytes .entry)) ⌝ }
-    {
-        let list = self.numbers;
-        let count = setup.a as u16 * records::batch(setup.n, setup.t) as u16;
-        load_challenges(list, bytes, from, count)
-    }
-
-    // Those of a CH: the shift is 0.
-    pub fn with(self, setup: Setup, bytes: &[u8]) -> Challenges
-        ensures { λ r. ⌜ r ≡ withChallenges setup self (now (bytes .entry)) ⌝ }
-    {
-        Challenges {
-            shift: Scalar::ZERO,
-            numbers: self.loaded(setup, bytes, 4),
-        }
-    }
-
-    // Those of a CS: the shift stands before the challenges.
-    pub fn with_shifted(self, setup: Setup, bytes: &[u8]) -> Challenges
-        ensures { λ r. ⌜ r ≡ withShifted setup self (now (bytes .entry)) ⌝ }
-    {
-        Challenges {
-            shift: Scalar(records::word(bytes, 4, 0)),
-            numbers: self.loaded(setup, bytes, 8),
-        }
-    }
 }
 
 impl Responses {

@@ -10,11 +10,12 @@ use Rattle.lists.specs.TestLaws.{pick-case}
 use Rattle.records.specs.Tags.{Tag, SU, DE, VE, CH, CS, RE, unknown, code, decoded, tagOf}
 use Rattle.records.specs.RecordLaws.{decoded-code}
 use Rattle.run.specs.declared.Run.{Run}
-use Rattle.run.specs.declared.Handler.{Handler}
-use Rattle.run.specs.declared.Handler.the-variants.{TakeSetup, TakeDealing, TakeComplaint, TakeChallenges, TakeShifted, TakeResponse, Refuse}
+use Rattle.stages.specs.declared.Handler.{Handler}
+use Rattle.stages.specs.declared.Handler.the-variants.{TakeSetup, TakeDealing, TakeComplaint, TakeChallenges, TakeShifted, TakeResponse, Refuse}
 use Rattle.run.specs.Runs.{wellFormed, stageOf}
 use Rattle.run.specs.RunLaws.{stage-live}
-use Rattle.run.specs.Steps.{takenAt, atStage, handlerAt, handled, stepOf, refusalOf, untaken}
+use Rattle.run.specs.Steps.{handled, stepOf, untaken}
+use Rattle.stages.specs.Definitions.{takenAt, atStage, handlerAt, refusalOf}
 
 -- taken past stage 0
 abbrev pub Past : Handler → Type 0

@@ -19,12 +19,13 @@ use Rattle.run.specs.declared.Run.{Run}
 use Rattle.run.specs.declared.Reply.{Reply}
 use Rattle.dealing.specs.Definitions.{noSetup, noDealings, setupOf, withDealing, dealingNumber}
 use Rattle.complaint.specs.Definitions.{noComplaints, blamedBy, withComplaint, complaintStage, complaintNumber}
-use Rattle.response.specs.declared.Challenges.{Challenges}
+use Rattle.challenge.specs.declared.Challenges.{Challenges}
 use Rattle.response.specs.Definitions.{noResponses, withResponse, responseNumber}
 use Rattle.run.specs.Runs.{setChallenges, begun, fresh, stageOf}
-use Rattle.run.specs.declared.Handler.{Handler}
-use Rattle.run.specs.declared.Handler.the-variants.{TakeSetup, TakeDealing, TakeComplaint, TakeChallenges, TakeShifted, TakeResponse}
-use Rattle.run.specs.Steps.{afterSetup, afterDealing, afterComplaint, afterChallenges, afterShifted, withRow, finished, afterResponse, answered, takenAt, atStage, handlerAt, handled, stepOf, afterFrom}
+use Rattle.stages.specs.declared.Handler.{Handler}
+use Rattle.stages.specs.declared.Handler.the-variants.{TakeSetup, TakeDealing, TakeComplaint, TakeChallenges, TakeShifted, TakeResponse}
+use Rattle.run.specs.Steps.{afterSetup, afterDealing, afterComplaint, afterChallenges, afterShifted, withRow, finished, afterResponse, answered, handled, stepOf, afterFrom}
+use Rattle.stages.specs.Definitions.{takenAt, atStage, handlerAt}
 use Rattle.run.specs.StepLaws.{stage-case, answered-case}
 use Rattle.run.specs.RunLaws.{Formed, stage-live}
 

@@ -14,11 +14,12 @@ use Rattle.arrays.specs.Arrays.{cell}
 use Rattle.dealing.specs.declared.Setup.{Setup}
 use Rattle.dealing.specs.declared.Dealings.{Dealings}
 use Rattle.complaint.specs.declared.Complaints.{Complaints}
-use Rattle.response.specs.declared.Challenges.{Challenges}
+use Rattle.challenge.specs.declared.Challenges.{Challenges}
 use Rattle.response.specs.declared.Responses.{Responses}
 use Rattle.dealing.specs.Definitions.{noSetup, noDealings}
 use Rattle.complaint.specs.Definitions.{noComplaints}
-use Rattle.response.specs.Definitions.{transcript, noChallenges, noResponses}
+use Rattle.response.specs.Definitions.{transcript, noResponses}
+use Rattle.challenge.specs.Definitions.{noChallenges}
 use Rattle.run.specs.declared.Run.{Run}
 
 -- ---- a run from its parts, and with the stage and one part replaced

@@ -8,10 +8,11 @@ use Rattle.lists.specs.TestLaws.{pick-case}
 use Rattle.records.specs.Tags.{Tag, tagOf}
 use Rattle.run.specs.declared.Run.{Run}
 use Rattle.run.specs.declared.Reply.{Reply}
-use Rattle.run.specs.declared.Handler.{Handler}
-use Rattle.run.specs.declared.Handler.the-variants.{Refuse}
+use Rattle.stages.specs.declared.Handler.{Handler}
+use Rattle.stages.specs.declared.Handler.the-variants.{Refuse}
 use Rattle.run.specs.Runs.{stageOf}
-use Rattle.run.specs.Steps.{takenAt, atStage, handlerAt, refused, answered, handled, stepOf}
+use Rattle.run.specs.Steps.{refused, answered, handled, stepOf}
+use Rattle.stages.specs.Definitions.{takenAt, atStage, handlerAt}
 
 -- a record with a tag
 pub step-tag : (g : Tag) (r : Run) (s : List ℕ) → tagOf s ≡ g → stepOf r s ≡ handled (handlerAt g (stageOf r)) r s

@@ -4,15 +4,17 @@ use mathlib.Core.List.{List, [], _∷_}
 use lib.Dec.{eqb}
 use Rattle.lists.specs.Tests.{pick}
 use Rattle.records.specs.Parameters.{quorum}
-use Rattle.records.specs.Tags.{Tag, SU, DE, VE, CH, CS, RE, unknown, tagOf}
+use Rattle.records.specs.Tags.{tagOf}
 use Rattle.refusals.specs.Refusals.{setupRefusal, challengesRefusal, shiftedRefusal}
 use Rattle.dealing.specs.Definitions.{setupOf, dealingNumber, withDealing}
 use Rattle.complaint.specs.Definitions.{complaintNumber, withComplaint, complaintStage}
-use Rattle.response.specs.Definitions.{withChallenges, withShifted, responseNumber, withResponse, signaturesOf}
+use Rattle.response.specs.Definitions.{responseNumber, withResponse, signaturesOf}
+use Rattle.challenge.specs.Definitions.{withChallenges, withShifted}
+use Rattle.stages.specs.Definitions.{handlerAt, refusalOf}
 use Rattle.run.specs.declared.Run.{Run}
 use Rattle.run.specs.declared.Reply.{Reply}
-use Rattle.run.specs.declared.Handler.{Handler}
-use Rattle.run.specs.declared.Handler.the-variants.{TakeSetup, TakeDealing, TakeComplaint, TakeChallenges, TakeShifted, TakeResponse, Refuse}
+use Rattle.stages.specs.declared.Handler.{Handler}
+use Rattle.stages.specs.declared.Handler.the-variants.{TakeSetup, TakeDealing, TakeComplaint, TakeChallenges, TakeShifted, TakeResponse, Refuse}
 use Rattle.run.specs.Runs.{setDealings, setComplaints, setChallenges, setResponses, setSignatures, begun, fresh, stageOf}
 
 -- ---- SU, at stage 0
@@ -59,32 +61,6 @@ afterResponse r s =
     let done = finished (withRow r s) in
     pick (eqb (r .responses .count + 1) (quorum (r .setup .t) (r .setup .a))) done (withRow r s)
 
--- ---- each tag is taken at one stage only
-
--- the stage that takes a tag; an unknown one is taken at none, and no run is at stage 7
-unfoldable pub takenAt : Tag → ℕ
-takenAt SU = 0
-takenAt DE = 1
-takenAt VE = 2
-takenAt CH = 3
-takenAt CS = 3
-takenAt RE = 4
-takenAt unknown = 7
-
--- at the stage that takes a tag its handler, at another refusal 11
-unfoldable pub atStage : Tag → ℕ → Handler → Handler
-atStage g stage h = pick (eqb stage (takenAt g)) h (Refuse 11)
-
--- what a record of a tag meets at a stage: its handler, or refusal 1 or 11
-unfoldable pub handlerAt : Tag → ℕ → Handler
-handlerAt SU stage = atStage SU stage TakeSetup
-handlerAt DE stage = atStage DE stage TakeDealing
-handlerAt VE stage = atStage VE stage TakeComplaint
-handlerAt CH stage = atStage CH stage TakeChallenges
-handlerAt CS stage = atStage CS stage TakeShifted
-handlerAt RE stage = atStage RE stage TakeResponse
-handlerAt unknown stage = Refuse 1
-
 -- ---- the step
 
 abbrev pub refused : Run → ℕ → Reply
@@ -108,15 +84,6 @@ unfoldable pub stepOf : Run → List ℕ → Reply
 stepOf r s = handled (handlerAt (tagOf s) (stageOf r)) r s
 
 -- the refusal by tag and stage alone, or 0
-unfoldable pub refusalOf : Handler → ℕ
-refusalOf (Refuse k) = k
-refusalOf TakeSetup = 0
-refusalOf TakeDealing = 0
-refusalOf TakeComplaint = 0
-refusalOf TakeChallenges = 0
-refusalOf TakeShifted = 0
-refusalOf TakeResponse = 0
-
 unfoldable pub untaken : Run → List ℕ → ℕ
 untaken r s = refusalOf (handlerAt (tagOf s) (stageOf r))
 

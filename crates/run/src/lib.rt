@@ -3,13 +3,13 @@ ghost use mathlib.Core.Path.{_≡_};
 ghost use mathlib.Core.Bool.{true};
 ghost use Prim.Native.Nat.{_+_};
 ghost use Rattle.records.specs.Parameters.{inBounds};
-ghost use Rattle.records.specs.Tags.{decoded};
 ghost use Rattle.refusals.specs.Refusals.{setupRefusal, challengesRefusal, shiftedRefusal};
 ghost use Rattle.dealing.specs.Definitions.{dealingNumber};
 ghost use Rattle.complaint.specs.Definitions.{complaintNumber};
 ghost use Rattle.response.specs.Definitions.{responseNumber};
 ghost use Rattle.run.specs.Runs.{setChallenges, fresh, begun, wellFormed, stageOf};
-ghost use Rattle.run.specs.Steps.{refused, answered, afterSetup, afterDealing, afterComplaint, afterChallenges, afterShifted, finished, afterResponse, handlerAt, stepOf, untaken};
+ghost use Rattle.run.specs.Steps.{refused, answered, afterSetup, afterDealing, afterComplaint, afterChallenges, afterShifted, finished, afterResponse, stepOf, untaken};
+use challenge::Challenges;
 use complaint::Complaints;
 use dealing::Dealings;
 use dealing::Setup;
@@ -18,8 +18,8 @@ use field::Scalar;
 use records::CELLS;
 use records::PARTIES;
 use records::PLACES;
-use response::Challenges;
 use response::Responses;
+use stages::Handler;
 
 // The run. At stage 5 the signatures, each a shifted φ, stand u outer, k inner.
 pub struct Run {
@@ -36,50 +36,6 @@ pub struct Run {
 pub struct Reply {
     pub run: Run,
     pub number: u8,
-}
-
-// What a record meets by its tag and the run's stage: the handler that takes it, or refusal 1 or 11.
-pub enum Handler {
-    TakeSetup,
-    TakeDealing,
-    TakeComplaint,
-    TakeChallenges,
-    TakeShifted,
-    TakeResponse,
-    Refuse(u8),
-}
-
-// Each tag is taken at one stage only.
-fn taken_by(tag: u8, stage: u8) -> Handler
-    ensures { λ r. ⌜ r ≡ handlerAt (decoded tag) stage ⌝ }
-{
-    match tag {
-        1 => match stage {
-            0 => Handler::TakeSetup,
-            _ => Handler::Refuse(11),
-        },
-        2 => match stage {
-            1 => Handler::TakeDealing,
-            _ => Handler::Refuse(11),
-        },
-        3 => match stage {
-            2 => Handler::TakeComplaint,
-            _ => Handler::Refuse(11),
-        },
-        4 => match stage {
-            3 => Handler::TakeChallenges,
-            _ => Handler::Refuse(11),
-        },
-        5 => match stage {
-            4 => Handler::TakeResponse,
-            _ => Handler::Refuse(11),
-        },
-        6 => match stage {
-            3 => Handler::TakeShifted,
-            _ => Handler::Refuse(11),
-        },
-        _ => Handler::Refuse(1),
-    }
 }
 
 impl Run {
@@ -321,7 +277,7 @@ impl Run {
     pub fn untaken(self, bytes: &[u8]) -> u8
         ensures { λ r. ⌜ r ≡ untaken self (now (bytes .entry)) ⌝ }
     {
-        let handler = taken_by(records::tag(bytes), self.stage_of());
+        let handler = stages::taken_by(records::tag(bytes), self.stage_of());
         match handler {
             Handler::TakeSetup => 0,
             Handler::TakeDealing => 0,
@@ -337,7 +293,7 @@ impl Run {
     pub fn step(self, bytes: &[u8]) -> Reply
         ensures { λ r. ⌜ r ≡ stepOf self (now (bytes .entry)) ⌝ }
     {
-        let handler = taken_by(records::tag(bytes), self.stage_of());
+        let handler = stages::taken_by(records::tag(bytes), self.stage_of());
         match handler {
             Handler::TakeSetup => self.take_setup(bytes),
             Handler::TakeDealing => self.take_dealing(bytes),

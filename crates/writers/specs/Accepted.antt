@@ -26,7 +26,8 @@ use Rattle.response.specs.Definitions.{transcript, responseNumber}
 use Rattle.run.specs.declared.Run.{Run}
 use Rattle.run.specs.declared.Reply.{Reply}
 use Rattle.run.specs.Runs.{fresh, begun, wellFormed, stageOf, transcriptOf}
-use Rattle.run.specs.Steps.{takenAt, atStage, handlerAt, handled, stepOf}
+use Rattle.run.specs.Steps.{handled, stepOf}
+use Rattle.stages.specs.Definitions.{takenAt, atStage, handlerAt}
 use Rattle.run.specs.StepLaws.{step-taken, answered-number}
 use Rattle.writers.specs.Writers.{ValidShares, complaintRefused, complaintBytes, responseRefused, responseFor, responseBytes}
 use Rattle.writers.specs.WriterLaws.{complaint-fits, mask-lt, response-fits}

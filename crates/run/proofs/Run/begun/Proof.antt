@@ -3,7 +3,8 @@ use mathlib.Core.Path.{refl}
 use Rattle.lists.specs.Stores.{filled}
 use Rattle.dealing.specs.Definitions.{noDealings}
 use Rattle.complaint.specs.Definitions.{noComplaints}
-use Rattle.response.specs.Definitions.{noChallenges, noResponses}
+use Rattle.response.specs.Definitions.{noResponses}
+use Rattle.challenge.specs.Definitions.{noChallenges}
 use Rattle.run.specs.Runs.{noScalars, begun}
 use Rattle.run.proofs.Run.begun.Statement.{statement}
 use Rattle.run.proofs.Run.begun.Tie as tie

@@ -2,7 +2,7 @@
 use borrow.Author.Needs.{needs}
 use mathlib.Core.Path.{_≡_, sym, _∙_}
 use mathlib.Core.Bool.{true}
-use Rattle.run.specs.declared.Handler.{Handler}
+use Rattle.stages.specs.declared.Handler.{Handler}
 use Rattle.run.specs.declared.Reply.{Reply}
 use Rattle.run.specs.Runs.{wellFormed}
 use Rattle.run.specs.Steps.{handled, stepOf}

@@ -1,8 +1,9 @@
 -- `Run::untaken` meets its contract: 0 for each handler, or the refusal. Assumes nothing.
 use borrow.Author.Needs.{needs}
 use mathlib.Core.Path.{_≡_, sym, ap, _∙_}
-use Rattle.run.specs.declared.Handler.{Handler}
-use Rattle.run.specs.Steps.{refusalOf, untaken}
+use Rattle.stages.specs.declared.Handler.{Handler}
+use Rattle.run.specs.Steps.{untaken}
+use Rattle.stages.specs.Definitions.{refusalOf}
 use Rattle.run.proofs.Stages.{untaken-by}
 use Rattle.run.proofs.Run.untaken.Statement.{statement}
 use Rattle.run.proofs.Run.untaken.Tie as tie

@@ -1,8 +1,8 @@
 -- `Challenges::with` meets its contract. Assumes nothing.
 use borrow.Author.Needs.{needs}
-use Rattle.response.specs.Definitions.{withChallenges}
-use Rattle.response.proofs.Challenges.with.Statement.{statement}
-use Rattle.response.proofs.Challenges.with.Tie as tie
+use Rattle.challenge.specs.Definitions.{withChallenges}
+use Rattle.challenge.proofs.Challenges.with.Statement.{statement}
+use Rattle.challenge.proofs.Challenges.with.Tie as tie
 
 loaded-requires : tie.Need-loaded-requires
 loaded-requires c κs = search needs

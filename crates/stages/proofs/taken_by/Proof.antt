@@ -1,9 +1,9 @@
 -- `taken_by` meets its contract: each arm is one tag, at its stage or at another. Assumes nothing.
 use borrow.Author.Tests.{ne-eqb}
 use Rattle.records.specs.Tags.{decoded}
-use Rattle.run.specs.Steps.{takenAt, atStage, handlerAt}
-use Rattle.run.proofs.taken_by.Statement.{statement}
-use Rattle.run.proofs.taken_by.Tie as tie
+use Rattle.stages.specs.Definitions.{takenAt, atStage, handlerAt}
+use Rattle.stages.proofs.taken_by.Statement.{statement}
+use Rattle.stages.proofs.taken_by.Tie as tie
 
 returns : tie.Need-returns
 unfolding handlerAt atStage takenAt decoded

@@ -1,8 +1,8 @@
 -- `Challenges::with_shifted` meets its contract. Assumes nothing.
 use borrow.Author.Needs.{needs}
-use Rattle.response.specs.Definitions.{withShifted}
-use Rattle.response.proofs.Challenges.with_shifted.Statement.{statement}
-use Rattle.response.proofs.Challenges.with_shifted.Tie as tie
+use Rattle.challenge.specs.Definitions.{withShifted}
+use Rattle.challenge.proofs.Challenges.with_shifted.Statement.{statement}
+use Rattle.challenge.proofs.Challenges.with_shifted.Tie as tie
 
 word-requires : tie.Need-word-requires
 word-requires c κs = search needs

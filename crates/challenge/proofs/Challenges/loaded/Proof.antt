@@ -3,9 +3,9 @@ use borrow.Author.Needs.{needs}
 use native.Mathlib.Omega.{arith}
 use mathlib.Core.Path.{_∙_}
 use Rattle.records.specs.RecordLaws.{byte-product}
-use Rattle.response.specs.Definitions.{challengesFrom}
-use Rattle.response.proofs.Challenges.loaded.Statement.{statement}
-use Rattle.response.proofs.Challenges.loaded.Tie as tie
+use Rattle.challenge.specs.Definitions.{challengesFrom}
+use Rattle.challenge.proofs.Challenges.loaded.Statement.{statement}
+use Rattle.challenge.proofs.Challenges.loaded.Tie as tie
 
 cast-count : tie.Need-cast-count
 cast-count c = search needs

@@ -8,8 +8,8 @@ use Rattle.field.specs.Definitions.{scalar}
 use Rattle.records.specs.Parameters.{cells}
 use Rattle.records.specs.Bytes.{word}
 use Rattle.lists.specs.LoadLaws.{Loading, loading-none, loading-in, loading-past, loading-end}
-use Rattle.response.proofs.load_challenges.Statement.{statement}
-use Rattle.response.proofs.load_challenges.Tie as tie
+use Rattle.challenge.proofs.load_challenges.Statement.{statement}
+use Rattle.challenge.proofs.load_challenges.Tie as tie
 
 abbrev Inv-loop : tie.InvT-loop
 Inv-loop bytes from count next₀ x₀ next x = Loading cells next₀ 0 count (λ k. scalar (word bytes from k)) x next

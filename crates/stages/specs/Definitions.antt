@@ -1,0 +1,41 @@
+-- Which stage takes a tag, and what a record meets there (document 01, "The run"; CS is of document 02, request 2.1).
+use Prim.Native.Nat.{ℕ}
+use lib.Dec.{eqb}
+use Rattle.lists.specs.Tests.{pick}
+use Rattle.records.specs.Tags.{Tag, SU, DE, VE, CH, CS, RE, unknown}
+use Rattle.stages.specs.declared.Handler.{Handler}
+use Rattle.stages.specs.declared.Handler.the-variants.{TakeSetup, TakeDealing, TakeComplaint, TakeChallenges, TakeShifted, TakeResponse, Refuse}
+
+-- the stage that takes a tag; an unknown one is taken at none, and no run is at stage 7
+unfoldable pub takenAt : Tag → ℕ
+takenAt SU = 0
+takenAt DE = 1
+takenAt VE = 2
+takenAt CH = 3
+takenAt CS = 3
+takenAt RE = 4
+takenAt unknown = 7
+
+-- at the stage that takes a tag its handler, at another refusal 11
+unfoldable pub atStage : Tag → ℕ → Handler → Handler
+atStage g stage h = pick (eqb stage (takenAt g)) h (Refuse 11)
+
+-- what a record of a tag meets at a stage: its handler, or refusal 1 or 11
+unfoldable pub handlerAt : Tag → ℕ → Handler
+handlerAt SU stage = atStage SU stage TakeSetup
+handlerAt DE stage = atStage DE stage TakeDealing
+handlerAt VE stage = atStage VE stage TakeComplaint
+handlerAt CH stage = atStage CH stage TakeChallenges
+handlerAt CS stage = atStage CS stage TakeShifted
+handlerAt RE stage = atStage RE stage TakeResponse
+handlerAt unknown stage = Refuse 1
+
+-- the refusal of a handler, and 0 where it takes the record
+unfoldable pub refusalOf : Handler → ℕ
+refusalOf (Refuse k) = k
+refusalOf TakeSetup = 0
+refusalOf TakeDealing = 0
+refusalOf TakeComplaint = 0
+refusalOf TakeChallenges = 0
+refusalOf TakeShifted = 0
+refusalOf TakeResponse = 0
