@@ -88,7 +88,7 @@ pub fn nonce_at(run: Run, u: u8, k: u8) -> Nonce
     let dealings = run.dealings;
     let complaints = run.complaints;
     let x = interpolation::point(1, k);
-    let nonce = response::combined_at(setup, dealings, complaints, u, x);
+    let nonce = verification::combined_at(setup, dealings, complaints, u, x);
     let shift = run.challenges.shift;
     Nonce::Is(nonce.mul(Element::GENERATOR.pow(shift)))
 }

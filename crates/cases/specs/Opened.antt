@@ -16,7 +16,8 @@ use Rattle.protocol.specs.Transcript.{dealingAt, validShare, coefficient, keyAt
 use Rattle.arrays.specs.Arrays.{base, cell}
 use Rattle.dealing.specs.Definitions.{noSetup, noDealings, setupOf, dealingNumber, wrongShares, withDealing, mayBlame, keyIn}
 use Rattle.complaint.specs.Definitions.{noComplaints, complaintNumber, withComplaint, complaintStage, maskBy, blamedBy, unblamed}
-use Rattle.response.specs.Definitions.{noResponses, phiOf, shiftedPhiOf, responseNumber, withResponse, transcript, signaturesOf}
+use Rattle.verification.specs.Definitions.{transcript}
+use Rattle.response.specs.Definitions.{noResponses, phiOf, shiftedPhiOf, responseNumber, withResponse, signaturesOf}
 use Rattle.challenge.specs.Definitions.{noChallenges, challengesFrom, withChallenges, withShifted}
 use Rattle.run.specs.Runs.{noScalars, begun, fresh, wellFormed, stageOf, transcriptOf, kept}
 use Rattle.answers.specs.Answers.{setsOf, unblamedOf, badOf, noSets, keptSets}

@@ -19,8 +19,8 @@ use Rattle.text.specs.LineLaws.{line-max}
 use Rattle.protocol.specs.Transcript.{nonce, shiftedElement, shiftedNonce}
 use Rattle.arrays.specs.Arrays.{cell, commitmentIn, elements}
 use Rattle.combination.specs.Combination.{combinedValue}
-use Rattle.response.specs.Definitions.{transcript}
-use Rattle.response.specs.ResponseLaws.{combined-is}
+use Rattle.verification.specs.Definitions.{transcript}
+use Rattle.verification.specs.VerificationLaws.{combined-is}
 use Rattle.run.specs.declared.Run.{Run}
 use Rattle.run.specs.Runs.{transcriptOf, kept}
 use Rattle.answers.specs.Answers.{unblamedOf}

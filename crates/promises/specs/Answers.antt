@@ -15,7 +15,7 @@ use Rattle.protocol.specs.Transcript.{shiftedNonce}
 use Rattle.protocol.specs.AlikeLaws.{shifted-same}
 use Rattle.answers.specs.declared.Nonce.the-variants as N
 use Rattle.answers.specs.declared.Signature.the-variants as S
-use Rattle.response.specs.Definitions.{transcript}
+use Rattle.verification.specs.Definitions.{transcript}
 use Rattle.run.specs.Runs.{stageOf, transcriptOf, kept}
 use Rattle.answers.specs.Answers.{badOf, unblamedOf, keptSets, setsOf, inBatch, nonceOf, phiAnswer, nonceValues, phiValues}
 use Rattle.run.specs.Steps.{after}

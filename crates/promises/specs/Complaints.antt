@@ -29,7 +29,8 @@ use Rattle.run.specs.StepLaws.{step-taken, stage-case, answered-number}
 use Rattle.run.specs.declared.Reply.{Reply}
 use Rattle.stages.specs.declared.Handler.{Handler}
 use Rattle.stages.specs.declared.Handler.the-variants.{TakeSetup, TakeDealing, TakeComplaint, TakeChallenges, TakeShifted, TakeResponse}
-use Rattle.response.specs.Definitions.{transcript, responseNumber}
+use Rattle.verification.specs.Definitions.{transcript}
+use Rattle.response.specs.Definitions.{responseNumber}
 use Rattle.writers.specs.Writers.{complaintBytes}
 use Rattle.writers.specs.Accepted.{complaint-mask}
 use Rattle.promises.specs.Lists.{accepted, ofTag, sentBy, recordOf, dealer, read, stageBy}

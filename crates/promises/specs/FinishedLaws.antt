@@ -28,7 +28,8 @@ use Rattle.protocol.specs.Signature.{signature}
 use Rattle.protocol.specs.ShiftLaws.{shift-verifies}
 use Rattle.run.specs.declared.Run.{Run}
 use Rattle.arrays.specs.Arrays.{base, cell}
-use Rattle.response.specs.Definitions.{transcript, respondersOf, phiOf, shiftedPhiOf}
+use Rattle.verification.specs.Definitions.{transcript}
+use Rattle.response.specs.Definitions.{respondersOf, phiOf, shiftedPhiOf}
 use Rattle.run.specs.Runs.{transcriptOf, kept}
 use Rattle.run.specs.Steps.{after}
 use Rattle.promises.specs.Lists.{accepted, ofTag, sentBy, recordOf, hold, read, phi, shiftedPhi}

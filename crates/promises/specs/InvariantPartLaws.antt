@@ -25,7 +25,8 @@ use Rattle.response.specs.declared.Responses.{Responses}
 use Rattle.run.specs.declared.Run.{Run}
 use Rattle.dealing.specs.Definitions.{noDealings, dealingNumber, wrongShares, withDealing, mayBlame}
 use Rattle.complaint.specs.Definitions.{noComplaints, complaintNumber, withComplaint, blamedBy}
-use Rattle.response.specs.Definitions.{noResponses, responseNumber, withResponse, transcript}
+use Rattle.verification.specs.Definitions.{transcript}
+use Rattle.response.specs.Definitions.{noResponses, responseNumber, withResponse}
 use Rattle.run.specs.Runs.{transcriptOf}
 use Rattle.complaint.specs.ComplaintLaws.{blamed-none, blamed-more}
 use Rattle.promises.specs.Lists.{some}

@@ -26,7 +26,8 @@ use Rattle.run.specs.declared.Run.{Run}
 use Rattle.dealing.specs.Definitions.{noDealings, setupOf, dealingNumber, withDealing}
 use Rattle.complaint.specs.Definitions.{noComplaints, complaintNumber, withComplaint, complaintStage, blamedBy}
 use Rattle.challenge.specs.declared.Challenges.{Challenges}
-use Rattle.response.specs.Definitions.{transcript, responseNumber, withResponse, signaturesOf}
+use Rattle.verification.specs.Definitions.{transcript}
+use Rattle.response.specs.Definitions.{responseNumber, withResponse, signaturesOf}
 use Rattle.challenge.specs.Definitions.{noChallenges, challengesFrom, withChallenges, withShifted}
 use Rattle.run.specs.Runs.{setChallenges, noScalars, begun, fresh, stageOf, transcriptOf}
 use Rattle.run.specs.Steps.{afterSetup, afterDealing, afterComplaint, afterChallenges, afterShifted, withRow, finished, afterResponse, refused, answered, handled, stepOf, afterFrom, after}

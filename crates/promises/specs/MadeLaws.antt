@@ -16,7 +16,7 @@ use Rattle.protocol.specs.Alike.{Alike}
 use Rattle.protocol.specs.Signature.{Sound}
 use Rattle.dealing.specs.declared.Setup.{Setup}
 use Rattle.arrays.specs.Arrays.{cell}
-use Rattle.response.specs.Definitions.{transcript}
+use Rattle.verification.specs.Definitions.{transcript}
 use Rattle.run.specs.Runs.{wellFormed, stageOf, transcriptOf}
 use Rattle.dealing.specs.Definitions.{setupOf, keyIn}
 use Rattle.run.specs.Steps.{after}

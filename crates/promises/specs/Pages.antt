@@ -17,7 +17,7 @@ use Rattle.field.specs.Definitions.{generator, product, raise}
 use Rattle.records.specs.Parameters.{batch}
 use Rattle.protocol.specs.Transcript.{shiftedNonce}
 use Rattle.protocol.specs.AlikeLaws.{shifted-same}
-use Rattle.response.specs.Definitions.{transcript}
+use Rattle.verification.specs.Definitions.{transcript}
 use Rattle.run.specs.Runs.{fresh, stageOf, transcriptOf, kept}
 use Rattle.run.specs.Steps.{after}
 use Rattle.answers.specs.Answers.{noSets}

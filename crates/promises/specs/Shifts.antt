@@ -16,7 +16,8 @@ use Rattle.records.specs.Tags.{SU, DE, VE, CH, CS, RE, tagOf}
 use Rattle.protocol.specs.Transcript.{nonce, shiftedNonce, dealerFactor, combinedAt, challengeAt, responseAt, passes}
 use Rattle.protocol.specs.ShiftLaws.{shift-none}
 use Rattle.protocol.specs.Alike.{Alike}
-use Rattle.response.specs.Definitions.{transcript, responseNumber}
+use Rattle.verification.specs.Definitions.{transcript}
+use Rattle.response.specs.Definitions.{responseNumber}
 use Rattle.run.specs.declared.Run.{Run}
 use Rattle.run.specs.declared.Reply.{Reply}
 use Rattle.stages.specs.declared.Handler.the-variants.{TakeResponse, Refuse}

@@ -8,7 +8,7 @@ use lib.ListN.{length}
 use borrow.Author.Tests.{lt-ltb, le-ltb, eq-eqb, ne-eqb}
 use Rattle.records.specs.Parameters.{quorum}
 use Rattle.records.specs.Tags.{Tag, SU, DE, VE, CH, CS, RE}
-use Rattle.response.specs.Definitions.{transcript}
+use Rattle.verification.specs.Definitions.{transcript}
 use Rattle.run.specs.Runs.{transcriptOf}
 use Rattle.run.specs.Steps.{after}
 use Rattle.promises.specs.Lists.{accepted, ofTag, read, unset, dealing, complaining, stopped, unchallenged, responding, stageBy}

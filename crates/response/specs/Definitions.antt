@@ -1,9 +1,9 @@
 -- The accepted response rows (document 01, "The run"; the shift is of document 02, request 2.1): when a row is taken, what is kept of it, and φ.
 use Prim.Native.Nat.{ℕ, _+_, _*_, _-_, _/_, _%_}
-use mathlib.Core.Bool.{not, _&&_}
+use mathlib.Core.Bool.{not}
 use mathlib.Core.List.{List}
 use lib.ListN.{length, getD}
-use Rattle.lists.specs.Tests.{allTo, require, orNext}
+use Rattle.lists.specs.Tests.{require, orNext}
 use Rattle.lists.specs.Stores.{stored, filled}
 use Rattle.sets.specs.Masks.{has, insert, members}
 use Rattle.field.specs.declared.Scalar.{Scalar}
@@ -12,30 +12,13 @@ use Rattle.interpolation.specs.Definitions.{party, slot, scalarAt}
 use Rattle.records.specs.Parameters.{places, batch}
 use Rattle.records.specs.Bytes.{word, sender}
 use Rattle.refusals.specs.Refusals.{responseRefusal}
-use Rattle.protocol.specs.Transcript.{Transcript, passes}
-use Rattle.arrays.specs.Arrays.{base, commitmentIn, challengeIn}
+use Rattle.arrays.specs.Arrays.{base}
 use Rattle.dealing.specs.declared.Setup.{Setup}
 use Rattle.dealing.specs.declared.Dealings.{Dealings}
-use Rattle.dealing.specs.Definitions.{keyIn}
 use Rattle.complaint.specs.declared.Complaints.{Complaints}
-use Rattle.complaint.specs.Definitions.{blamedBy}
 use Rattle.challenge.specs.declared.Challenges.{Challenges}
+use Rattle.verification.specs.Definitions.{rowPasses}
 use Rattle.response.specs.declared.Responses.{Responses}
-
--- ---- the public values of a committee, from what is kept
-
-unfoldable pub transcript : Setup → Dealings → Complaints → Challenges → Transcript
-transcript setup d c e =
-    record {
-      n = setup .n;
-      t = setup .t;
-      a = setup .a;
-      key = keyIn setup;
-      qual = λ i. has (d .dealers) i && not (has (blamedBy (setup .n) c) i);
-      commitment = commitmentIn (d .commitments);
-      challenge = challengeIn (setup .a) (e .numbers);
-      shift = e .shift;
-    }
 
 -- ---- the response rows
 
@@ -48,7 +31,7 @@ responseNumber setup d c e p s =
     orNext (responseRefusal (setup .n) (setup .t) s)
     (require (not (has (p .responders) (sender s))) 12
     (require (has (c .holders) (sender s)) 14
-    (require (allTo (batch (setup .n) (setup .t)) (λ x. passes (transcript setup d c e) (x + 1) (sender s) (scalar (word s 4 x)))) 15 0)))
+    (require (rowPasses setup d c e s) 15 0)))
 
 unfoldable pub withResponse : Setup → Responses → List ℕ → Responses
 withResponse setup p s =

@@ -18,7 +18,8 @@ use Rattle.challenge.specs.declared.Challenges.{Challenges}
 use Rattle.response.specs.declared.Responses.{Responses}
 use Rattle.dealing.specs.Definitions.{noSetup, noDealings}
 use Rattle.complaint.specs.Definitions.{noComplaints}
-use Rattle.response.specs.Definitions.{transcript, noResponses}
+use Rattle.verification.specs.Definitions.{transcript}
+use Rattle.response.specs.Definitions.{noResponses}
 use Rattle.challenge.specs.Definitions.{noChallenges}
 use Rattle.run.specs.declared.Run.{Run}
 

@@ -22,7 +22,8 @@ use Rattle.dealer.specs.Dealt.{setupRefused, setupBytes, dealingRefused, dealin
 use Rattle.dealer.specs.DealtLaws.{setup-unrefused, dealing-unrefused}
 use Rattle.dealing.specs.Definitions.{keyIn, dealingNumber, mayBlame}
 use Rattle.complaint.specs.Definitions.{complaintNumber}
-use Rattle.response.specs.Definitions.{transcript, responseNumber}
+use Rattle.verification.specs.Definitions.{transcript}
+use Rattle.response.specs.Definitions.{responseNumber}
 use Rattle.run.specs.declared.Run.{Run}
 use Rattle.run.specs.declared.Reply.{Reply}
 use Rattle.run.specs.Runs.{fresh, begun, wellFormed, stageOf, transcriptOf}

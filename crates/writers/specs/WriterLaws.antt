@@ -16,7 +16,7 @@ use Rattle.records.specs.Tags.{complaintLength, responseLength}
 use Rattle.records.specs.RecordLaws.{party-of}
 use Rattle.dealing.specs.Definitions.{mayBlame}
 use Rattle.complaint.specs.Definitions.{blamedBy, unblamed}
-use Rattle.response.specs.Definitions.{transcript}
+use Rattle.verification.specs.Definitions.{transcript}
 use Rattle.run.specs.declared.Run.{Run}
 use Rattle.run.specs.Runs.{wellFormed, stageOf, transcriptOf}
 use Rattle.run.specs.RunLaws.{formed-of, stage-live}

@@ -9,7 +9,7 @@ use Rattle.records.specs.RecordLaws.{bounds-test}
 use Rattle.field.specs.Definitions.{product}
 use Rattle.protocol.specs.Transcript.{nonce, shiftedElement, shiftedNonce, combinedAt}
 use Rattle.answers.specs.declared.Nonce.the-variants as N
-use Rattle.response.specs.Definitions.{transcript}
+use Rattle.verification.specs.Definitions.{transcript}
 use Rattle.run.specs.Runs.{stageOf, transcriptOf}
 use Rattle.run.specs.RunLaws.{formed-of, stage-live}
 use Rattle.answers.specs.Answers.{nonceOf}

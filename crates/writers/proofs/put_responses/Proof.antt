@@ -20,7 +20,7 @@ use Rattle.encoding.specs.StoreLaws.{Put, put-none, put-next}
 use Rattle.protocol.specs.Transcript.{challengeAt}
 use Rattle.arrays.specs.Arrays.{challengeIn, scalars}
 use Rattle.arrays.specs.ArrayLaws.{scalars-interpolated}
-use Rattle.response.specs.Definitions.{transcript}
+use Rattle.verification.specs.Definitions.{transcript}
 use Rattle.run.specs.declared.Run.{Run}
 use Rattle.run.specs.Runs.{wellFormed, transcriptOf}
 use Rattle.run.specs.RunLaws.{formed-of}

@@ -5,7 +5,8 @@ use mathlib.Core.Path.{_∙_, _≡_, sym}
 use Rattle.interpolation.specs.Definitions.{slot}
 use Rattle.interpolation.specs.BasisLaws.{weights-by}
 use Rattle.interpolation.specs.PointLaws.{slot-is}
-use Rattle.response.proofs.ResponseRows.{phi-members}
+use Rattle.arrays.specs.ArrayLaws.{members-interpolated}
+use Rattle.response.specs.Definitions.{phiOf}
 use Rattle.response.proofs.Responses.interpolated.Statement.{statement}
 use Rattle.response.proofs.Responses.interpolated.Tie as tie
 
@@ -22,13 +23,14 @@ sum-requires : tie.Need-sum-requires
 sum-requires c κs = search needs
 
 returns : tie.Need-returns
+unfolding phiOf
 returns c =
     let weights = c .before .before in
     let start = weights .before .before .before in
     let at : weights .before .point .result ≡ slot (start .args .k) = weights .before .point .ensures ∙ sym (slot-is (start .args .k)) in
     c .sum .ensures
     ∙ rw (c .before .member-numbers .ensures, weights .weights .ensures, start .pre, weights-by, at)
-    (phi-members (start .args .n) (start .args .self) (start .args .u) (start .args .k) (omega arith))
+    (members-interpolated (start .args .n) (start .args .self .responders) (start .args .self .numbers) (start .args .u) (slot (start .args .k)) (omega arith))
 
 pub interpolated-spec : {M : Type 1} → statement M
 interpolated-spec =

@@ -1,8 +1,8 @@
--- The response rows: what a number is tested against, and what the accepted numbers interpolate to. Assumes nothing.
+-- What the numbers of a response row are tested against. Assumes nothing.
 use mathlib.Core.Path.{_≡_, ap, ap₂}
 use mathlib.Core.Bool.{Bool}
 use mathlib.Core.List.{List}
-use Prim.Native.Nat.{ℕ, _+_, _^_, _≤_, _<_}
+use Prim.Native.Nat.{ℕ, _+_, _≤_}
 use native.Mathlib.Omega.{arith}
 use Rattle.lists.specs.Tests.{allTo}
 use Rattle.lists.specs.TestLaws.{all-cong}
@@ -18,27 +18,17 @@ use Rattle.records.specs.Parameters.{quorum, batch}
 use Rattle.records.specs.Bytes.{word, sender}
 use Rattle.records.specs.RecordLaws.{Bounds, key-max}
 use Rattle.protocol.specs.Transcript.{keyAt, challengeAt, responseAt, passes}
-use Rattle.arrays.specs.Arrays.{commitmentIn, challengeIn, memberPoints, memberNumbers, elements, scalars}
+use Rattle.arrays.specs.Arrays.{commitmentIn, challengeIn, elements, scalars}
 use Rattle.combination.specs.Combination.{combinedValue}
-use Rattle.arrays.specs.ArrayLaws.{challenges-interpolated, members-interpolated}
+use Rattle.arrays.specs.ArrayLaws.{challenges-interpolated}
 use Rattle.dealing.specs.declared.Setup.{Setup}
 use Rattle.dealing.specs.declared.Dealings.{Dealings}
 use Rattle.dealing.specs.Definitions.{keyIn}
 use Rattle.complaint.specs.declared.Complaints.{Complaints}
 use Rattle.complaint.specs.Definitions.{unblamed}
 use Rattle.challenge.specs.declared.Challenges.{Challenges}
-use Rattle.response.specs.declared.Responses.{Responses}
-use Rattle.response.specs.Definitions.{transcript, phiOf}
-use Rattle.response.specs.ResponseLaws.{combined-is}
-
--- ---- φ
-
-pub phi-members : (n : ℕ) (p : Responses) (u k : ℕ)
-    → p .responders < 2 ^ 64
-    → sumOf (weightsOf (memberPoints n (p .responders)) (slot k)) (memberNumbers n (p .responders) (p .numbers) u)
-    ≡ phiOf n p u k
-unfolding phiOf
-phi-members n p u k l = members-interpolated n (p .responders) (p .numbers) u (slot k) l
+use Rattle.verification.specs.Definitions.{transcript}
+use Rattle.verification.specs.VerificationLaws.{combined-is}
 
 -- ---- what 4^number is compared with
 

@@ -20,10 +20,10 @@ use Rattle.protocol.specs.Transcript.{passes}
 use Rattle.combination.specs.Combination.{powersAt}
 use Rattle.arrays.specs.ArrayLaws.{elements-length}
 use Rattle.combination.specs.PowerLaws.{powers-none, powers-next, combined-powers}
-use Rattle.response.specs.Definitions.{transcript}
-use Rattle.response.proofs.ResponseRows.{wanted, fits, all-weights, row-tested}
-use Rattle.response.proofs.row_passes.Statement.{statement}
-use Rattle.response.proofs.row_passes.Tie as tie
+use Rattle.verification.specs.Definitions.{transcript}
+use Rattle.verification.proofs.RowTests.{wanted, fits, all-weights, row-tested}
+use Rattle.verification.proofs.row_passes.Statement.{statement}
+use Rattle.verification.proofs.row_passes.Tie as tie
 
 abbrev Inv-loop : tie.InvT-loop
 Inv-loop setup bytes numbers qual quorum key at-slots at-points powers passed u values image₀ v₀ u-end image v =

@@ -20,7 +20,7 @@ use Rattle.dealing.specs.declared.Dealings.{Dealings}
 use Rattle.complaint.specs.declared.Complaints.{Complaints}
 use Rattle.complaint.specs.Definitions.{blamedBy, unblamed}
 use Rattle.challenge.specs.declared.Challenges.{Challenges}
-use Rattle.response.specs.Definitions.{transcript}
+use Rattle.verification.specs.Definitions.{transcript}
 
 -- their values are combined for u, and interpolated at x
 pub combined-is : (setup : Setup) (d : Dealings) (c : Complaints) (e : Challenges) → Bounds (setup .n) (setup .t) (setup .a) → (x : Scalar) (u : ℕ)

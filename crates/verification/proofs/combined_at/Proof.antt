@@ -11,9 +11,9 @@ use Rattle.arrays.specs.Arrays.{commitmentIn, elements}
 use Rattle.combination.specs.Combination.{combinedValue}
 use Rattle.combination.specs.PowerLaws.{combined-powers}
 use borrow.Author.Needs.{needs}
-use Rattle.response.specs.ResponseLaws.{combined-is}
-use Rattle.response.proofs.combined_at.Statement.{statement}
-use Rattle.response.proofs.combined_at.Tie as tie
+use Rattle.verification.specs.VerificationLaws.{combined-is}
+use Rattle.verification.proofs.combined_at.Statement.{statement}
+use Rattle.verification.proofs.combined_at.Tie as tie
 
 quorum-requires : tie.Need-quorum-requires
 quorum-requires c κs = search needs
