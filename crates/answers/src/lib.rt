@@ -87,7 +87,7 @@ pub fn nonce_at(run: Run, u: u8, k: u8) -> Nonce
     let setup = run.setup;
     let dealings = run.dealings;
     let complaints = run.complaints;
-    let x = interpolation::point(1, k);
+    let x = points::point(1, k);
     let nonce = verification::combined_at(setup, dealings, complaints, u, x);
     let shift = run.challenges.shift;
     Nonce::Is(nonce.mul(Element::GENERATOR.pow(shift)))

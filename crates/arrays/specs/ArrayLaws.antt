@@ -12,8 +12,9 @@ use Rattle.field.specs.declared.Scalar.{Scalar}
 use Rattle.field.specs.declared.Element.{Element}
 use Rattle.field.specs.Definitions.{scalar, identity}
 use Rattle.interpolation.specs.Definitions.{party, slot, committedPoint, scalarAt, elementAt}
-use Rattle.interpolation.specs.Rows.{mostScalars, listed, weightsOf, sumOf, productOf}
-use Rattle.interpolation.specs.RowLaws.{scalarAt-cong, elementAt-cong, sum-weights, product-weights}
+use Rattle.rows.specs.Definitions.{mostScalars, listed, weightsOf, sumOf, productOf}
+use Rattle.interpolation.specs.WeightLaws.{scalarAt-cong, elementAt-cong}
+use Rattle.rows.specs.RowLaws.{sum-weights, product-weights}
 use Rattle.arrays.specs.Arrays.{base, challengeIn, memberPoints, memberNumbers, elements, scalars}
 
 -- sixty-four places

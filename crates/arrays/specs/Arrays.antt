@@ -7,9 +7,9 @@ use Rattle.sets.specs.Masks.{has, members, count}
 use Rattle.field.specs.declared.Scalar.{Scalar}
 use Rattle.field.specs.declared.Element.{Element}
 use Rattle.field.specs.Definitions.{scalar, identity}
-use Rattle.interpolation.specs.declared.Row.{Row}
+use Rattle.rows.specs.declared.Row.{Row}
 use Rattle.interpolation.specs.Definitions.{party}
-use Rattle.interpolation.specs.Rows.{mostScalars, listed}
+use Rattle.rows.specs.Definitions.{mostScalars, listed}
 use Rattle.records.specs.Parameters.{stride}
 
 -- where party i's values begin

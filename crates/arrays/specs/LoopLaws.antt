@@ -10,7 +10,7 @@ use Rattle.lists.specs.Stores.{stored, filled}
 use Rattle.lists.specs.StoreLaws.{stored-none, stored-first, stored-capped, stored-cong, length-filled}
 use Rattle.sets.specs.Masks.{members, count}
 use Rattle.sets.specs.MemberLaws.{members-next, count-none}
-use Rattle.interpolation.specs.Rows.{mostScalars}
+use Rattle.rows.specs.Definitions.{mostScalars}
 
 -- the array once k values are stored
 abbrev pub front : {A : Type 0} → A → ℕ → (ℕ → A) → List A

@@ -3,16 +3,16 @@ ghost use mathlib.Core.Path.{_≡_};
 ghost use Prim.Native.Nat.{_+_, _-_, min};
 ghost use lib.ListN.{getD};
 ghost use Rattle.field.specs.Definitions.{identity, generator, sameElement, raise};
-ghost use Rattle.interpolation.specs.Rows.{mostScalars, productOf};
+ghost use Rattle.rows.specs.Definitions.{mostScalars, productOf};
 ghost use Rattle.arrays.specs.Arrays.{challengeIn, memberPoints, memberNumbers, elements, scalars};
 use field::Element;
 use field::Scalar;
-use interpolation::ROW;
-use interpolation::Row;
 use records::CELLS;
 use records::PARTIES;
 use records::PLACES;
 use records::STRIDE;
+use rows::ROW;
+use rows::Row;
 
 // One less, and 0 for 0.
 pub fn predecessor(u: u8) -> u8
@@ -73,7 +73,7 @@ pub fn member_points(n: u8, set: u64) -> Row
     let mut count: u8 = 0;
     for i in 0..n {
         if sets::has(set, i + 1) {
-            at[count as usize] = interpolation::point(i + 1, 0);
+            at[count as usize] = points::point(i + 1, 0);
             count += 1;
         }
     }

@@ -12,7 +12,7 @@ use Rattle.field.specs.declared.Scalar.{Scalar}
 use Rattle.field.specs.declared.Element.{Element}
 use Rattle.field.specs.Definitions.{scalar, generator, product, raise}
 use Rattle.interpolation.specs.Definitions.{slot, committedPoint}
-use Rattle.interpolation.specs.Rows.{listed, weightsOf, productOf}
+use Rattle.rows.specs.Definitions.{listed, weightsOf, productOf}
 use Rattle.records.specs.Parameters.{cells, quorum, batch}
 use Rattle.records.specs.RecordLaws.{Bounds, cells-max}
 use Rattle.text.specs.LineLaws.{line-max}

@@ -33,12 +33,12 @@ fn put_row(out: &mut [u8], at: usize, run: Run, powers: [Element; PLACES], u: u8
     let a = run.setup.a;
     let quorum = records::quorum(run.setup.t, a) as u8;
     let values = combination::combined_values(powers, answers::unblamed(run), run.setup.n, quorum);
-    let basis = interpolation::committed_points(a, quorum).basis();
+    let basis = points::committed_points(a, quorum).basis();
     let first = (u - 1) as usize * a as usize;
     let mut next = at;
     for k in 0..a {
         let nonce = basis
-            .weights(interpolation::point(1, k + 1))
+            .weights(points::point(1, k + 1))
             .product(values)
             .mul(moved);
         let phi = run.signatures[first + k as usize];

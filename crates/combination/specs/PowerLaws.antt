@@ -13,7 +13,7 @@ use Rattle.lists.specs.StoreLaws.{length-stored, stored-from, stored-capped, st
 use Rattle.field.specs.declared.Element.{Element}
 use Rattle.field.specs.Definitions.{identity, powered}
 use Rattle.field.specs.ElementLaws.{identity-powered, powered-powered, powered-swap}
-use Rattle.interpolation.specs.Rows.{mostScalars}
+use Rattle.rows.specs.Definitions.{mostScalars}
 use Rattle.records.specs.Parameters.{stride}
 use Rattle.protocol.specs.Transcript.{exponent}
 use Rattle.protocol.specs.ProductLaws.{productOver-cong, exponent-first}

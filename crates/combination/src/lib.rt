@@ -7,11 +7,11 @@ ghost use Rattle.arrays.specs.Arrays.{commitmentIn, elements};
 ghost use Rattle.combination.specs.Combination.{combinedValue, raised, powersAt};
 use field::Element;
 use field::Scalar;
-use interpolation::ROW;
-use interpolation::Row;
 use records::MOST_PARTIES;
 use records::PLACES;
 use records::STRIDE;
+use rows::ROW;
+use rows::Row;
 
 // i^(u-1) as a scalar, i being the dealer's number.
 pub fn coefficient(i: u8, u: u8) -> Scalar

@@ -15,8 +15,8 @@ const PACKING: u8 = 2;
 
 // The value at party j of the polynomial that has these values at the first points from 1-a on.
 fn value_at(count: u8, values: [Scalar; 64], j: u8) -> u32 {
-    let value = interpolation::committed_points(PACKING, count)
-        .weights(interpolation::point(j, 0))
+    let value = points::committed_points(PACKING, count)
+        .weights(points::point(j, 0))
         .sum(values);
     value.0
 }

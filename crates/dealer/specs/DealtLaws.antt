@@ -9,7 +9,7 @@ use Rattle.field.specs.Definitions.{scalar, element, generator, sameElement, is
 use Rattle.field.specs.ScalarLaws.{scalar-word}
 use Rattle.field.specs.ElementLaws.{generator-element, is-same}
 use Rattle.interpolation.specs.Definitions.{party, committedPoint}
-use Rattle.interpolation.specs.RowLaws.{elementAt-cong}
+use Rattle.interpolation.specs.WeightLaws.{elementAt-cong}
 use Rattle.interpolation.specs.PointLaws.{scalarAt-range, raise-scalarAt}
 use Rattle.records.specs.Parameters.{quorum}
 use Rattle.records.specs.Bytes.{byteAt, numberAt, word}

@@ -7,14 +7,14 @@ ghost use lib.Dec.{eqb};
 ghost use lib.Seq.{sets};
 ghost use Rattle.lists.specs.Tests.{pick, allTo};
 ghost use Rattle.field.specs.Definitions.{scalar, isScalar};
-ghost use Rattle.interpolation.specs.Rows.{mostScalars};
+ghost use Rattle.rows.specs.Definitions.{mostScalars};
 ghost use Rattle.records.specs.Parameters.{inBounds, quorum};
 ghost use Rattle.encoding.specs.Bytes.{fours};
 ghost use Rattle.arrays.specs.Arrays.{scalars};
 ghost use Rattle.dealer.specs.Dealt.{setupRefused, setupBytes, dealingRefused, shareFor, dealingBytes};
 use field::Element;
 use field::Scalar;
-use interpolation::ROW;
+use rows::ROW;
 
 // Whether every number of a list is a scalar.
 fn all_scalars(list: &[u32]) -> bool
@@ -111,9 +111,9 @@ fn put_shares(out: &mut [u8], at: usize, n: u8, t: u8, a: u8, values: &[u32])
     ensures { λ _. ⌜ now (out .exit) ≡ sets (now (out .entry)) at (fours n (λ j. shareFor t a (now (values .entry)) (j + 1) .0)) ⌝ }
 {
     let list = load_scalars(values);
-    let points = interpolation::committed_points(a, records::quorum(t, a) as u8);
+    let points = points::committed_points(a, records::quorum(t, a) as u8);
     for j in 0..n {
-        let weights = points.weights(interpolation::point(j + 1, 0));
+        let weights = points.weights(points::point(j + 1, 0));
         let share = weights.sum(list);
         encoding::put(out, at + 4 * j as usize, share.0);
     }

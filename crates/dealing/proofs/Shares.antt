@@ -9,11 +9,11 @@ use Rattle.sets.specs.Masks.{maskOf, insert}
 use Rattle.sets.specs.MaskLaws.{maskOf-insert, maskOf-cong}
 use Rattle.field.specs.declared.Element.{Element}
 use Rattle.field.specs.Definitions.{scalar, element, generator, raise, sameElement}
-use Rattle.interpolation.specs.declared.Row.{Row}
-use Rattle.interpolation.specs.declared.Basis.{Basis}
+use Rattle.rows.specs.declared.Row.{Row}
+use Rattle.rows.specs.declared.Basis.{Basis}
 use Rattle.interpolation.specs.Definitions.{party, committedPoint}
-use Rattle.interpolation.specs.Rows.{listed, productOf, basisOf, weightsBy}
-use Rattle.interpolation.specs.BasisLaws.{weights-by}
+use Rattle.rows.specs.Definitions.{listed, productOf, basisOf, weightsBy}
+use Rattle.rows.specs.BasisLaws.{weights-by}
 use Rattle.records.specs.Parameters.{inBounds, quorum}
 use Rattle.records.specs.Bytes.{word}
 use Rattle.records.specs.Tags.{sharesFrom}

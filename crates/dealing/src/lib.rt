@@ -11,11 +11,11 @@ ghost use Rattle.arrays.specs.Arrays.{elements};
 ghost use Rattle.dealing.specs.Definitions.{setupOf, keyIn, dealingNumber, wrongShares, withDealing, mayBlame};
 use field::Element;
 use field::Scalar;
-use interpolation::ROW;
 use records::MOST_PARTIES;
 use records::PARTIES;
 use records::PLACES;
 use records::STRIDE;
+use rows::ROW;
 
 // The accepted setup: the parameters, and S, S_1 to S_t.
 pub struct Setup {
@@ -87,12 +87,12 @@ fn wrong_shares(setup: Setup, bytes: &[u8]) -> u64
 {
     let quorum = records::quorum(setup.t, setup.a);
     let values = load_values(bytes, quorum);
-    let basis = interpolation::committed_points(setup.a, quorum as u8).basis();
+    let basis = points::committed_points(setup.a, quorum as u8).basis();
     let from = records::shares_from(setup.t, setup.a);
     let mut wrong: u64 = 0;
     for i in 0..setup.n {
         let j = i + 1;
-        let weights = basis.weights(interpolation::point(j, 0));
+        let weights = basis.weights(points::point(j, 0));
         let share = Scalar(records::word(bytes, from, i as u16));
         if !arrays::share_fits(weights, values, share) {
             wrong = sets::insert(wrong, j);
@@ -123,7 +123,7 @@ impl Setup {
     {
         let key = self.key;
         let values = arrays::key_values(key, self.t, self.a);
-        interpolation::committed_points(self.a, self.t + self.a)
+        points::committed_points(self.a, self.t + self.a)
             .weights(x)
             .product(values)
     }

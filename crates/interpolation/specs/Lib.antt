@@ -1,10 +1,7 @@
 pub mod Definitions
+pub mod WeightLaws
 pub mod StructureLaws
 pub mod PointLaws
 pub mod PolynomialLaws
 pub mod ExponentialLaws
-pub mod Rows
-pub mod RowLaws
-pub mod BasisLaws
 pub mod ProductLaws
-pub mod TurnLaws

@@ -21,6 +21,10 @@ use Rattle.interpolation.specs.StructureLaws.{Residue, residue, residue-
 
 -- ---- points
 
+pub point-is : (x y : ℕ) → point x y ≡ minus (reduced x) (reduced y)
+unfolding point
+point-is x y = refl
+
 pub point-range : (x y : ℕ) → IsScalar (point x y)
 unfolding point
 point-range x y = minus-range _ _
@@ -35,7 +39,7 @@ pub point-unique : (x y x′ y′ : ℕ) → x + y′ ≤ 100000 → x′ + y �
 unfolding point
 point-unique x y x′ y′ l k e = difference-unique x y x′ y′ l k e
 
--- the points of holders and dealers, and of packed places
+-- the points of holders and dealers, of packed places, and of committed values
 pub party-is : (j : ℕ) → party j ≡ point j 0
 unfolding party
 party-is j = refl
@@ -43,6 +47,10 @@ party-is j = refl
 pub slot-is : (k : ℕ) → slot k ≡ point 1 k
 unfolding slot
 slot-is k = refl
+
+pub committed-is : (a v : ℕ) → committedPoint a v ≡ point (v + 1) a
+unfolding committedPoint
+committed-is a v = refl
 
 -- the first m points have distinct residues
 abbrev pub DistinctPoints : ℕ → (ℕ → Scalar) → Type 0

@@ -6,7 +6,7 @@ use Rattle.field.specs.declared.Scalar.{Scalar}
 use Rattle.field.specs.declared.Element.{Element}
 use Rattle.field.specs.Definitions.{powered}
 use Rattle.interpolation.specs.Definitions.{slot, committedPoint, elementAt}
-use Rattle.interpolation.specs.RowLaws.{elementAt-cong}
+use Rattle.interpolation.specs.WeightLaws.{elementAt-cong}
 use Rattle.records.specs.Parameters.{quorum}
 use Rattle.protocol.specs.Transcript.{Transcript, dealingAt, exponent, productOver, combinedAt, nonce, shiftedElement, shiftedNonce, dealerFactor}
 use Rattle.protocol.specs.ProductLaws.{productOver-cong}

@@ -13,7 +13,7 @@ use Rattle.interpolation.specs.Definitions.{party, slot, committedPoint, scalar
 use Rattle.interpolation.specs.PointLaws.{committed-distinct, slots-distinct, parties-distinct, slot-committed, elementAt-point, scalarAt-reduced, raise-scalarAt}
 use Rattle.interpolation.specs.PolynomialLaws.{polynomial-interpolated}
 use Rattle.interpolation.specs.ExponentialLaws.{Exponential, exponential-wider, exponential-interpolated, exponential-product, exponential-raise, exponential-powered, exponential-pick, exponential-fold, exact-elements}
-use Rattle.interpolation.specs.RowLaws.{elementAt-cong}
+use Rattle.interpolation.specs.WeightLaws.{elementAt-cong}
 use Rattle.records.specs.Parameters.{quorum}
 use Rattle.records.specs.RecordLaws.{Bounds, quorum-is}
 use Rattle.protocol.specs.Transcript.{Transcript, dealingAt, keyAt, exponent, productOver, combinedAt, nonce, challengeAt, responseAt, dealerFactor}

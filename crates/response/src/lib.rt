@@ -6,7 +6,7 @@ ghost use Rattle.lists.specs.Stores.{stored};
 ghost use Rattle.field.specs.Definitions.{scalar};
 ghost use Rattle.records.specs.Parameters.{inBounds};
 ghost use Rattle.records.specs.Bytes.{word};
-ghost use Rattle.interpolation.specs.Rows.{basisOf};
+ghost use Rattle.rows.specs.Definitions.{basisOf};
 ghost use Rattle.arrays.specs.Arrays.{memberPoints};
 ghost use Rattle.response.specs.Definitions.{responseNumber, withResponse, phiOf, signaturesOf};
 use challenge::Challenges;
@@ -14,10 +14,10 @@ use complaint::Complaints;
 use dealing::Dealings;
 use dealing::Setup;
 use field::Scalar;
-use interpolation::Basis;
 use records::CELLS;
 use records::PLACES;
 use records::STRIDE;
+use rows::Basis;
 
 // The accepted response rows. Holder j's numbers stand from (j - 1) × STRIDE.
 pub struct Responses {
@@ -96,7 +96,7 @@ impl Responses {
         let set = self.responders;
         let numbers = self.numbers;
         basis
-            .weights(interpolation::point(1, k))
+            .weights(points::point(1, k))
             .sum(arrays::member_numbers(n, set, numbers, u))
     }
 

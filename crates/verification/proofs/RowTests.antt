@@ -10,10 +10,10 @@ use Rattle.sets.specs.Masks.{has}
 use Rattle.field.specs.declared.Scalar.{Scalar}
 use Rattle.field.specs.declared.Element.{Element}
 use Rattle.field.specs.Definitions.{scalar, generator, product, raise, sameElement}
-use Rattle.interpolation.specs.declared.Row.{Row}
+use Rattle.rows.specs.declared.Row.{Row}
 use Rattle.interpolation.specs.Definitions.{party, slot, committedPoint}
-use Rattle.interpolation.specs.Rows.{listed, weightsOf, sumOf, productOf}
-use Rattle.interpolation.specs.TurnLaws.{first, first-weights}
+use Rattle.rows.specs.Definitions.{listed, weightsOf, sumOf, productOf}
+use Rattle.rows.specs.TurnLaws.{first, first-weights}
 use Rattle.records.specs.Parameters.{quorum, batch}
 use Rattle.records.specs.Bytes.{word, sender}
 use Rattle.records.specs.RecordLaws.{Bounds, key-max}

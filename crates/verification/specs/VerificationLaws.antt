@@ -6,8 +6,8 @@ use Rattle.sets.specs.Masks.{has}
 use Rattle.sets.specs.MaskLaws.{has-minus}
 use Rattle.field.specs.declared.Scalar.{Scalar}
 use Rattle.interpolation.specs.Definitions.{committedPoint}
-use Rattle.interpolation.specs.Rows.{listed, weightsOf, productOf}
-use Rattle.interpolation.specs.RowLaws.{elementAt-cong}
+use Rattle.rows.specs.Definitions.{listed, weightsOf, productOf}
+use Rattle.interpolation.specs.WeightLaws.{elementAt-cong}
 use Rattle.records.specs.Parameters.{quorum}
 use Rattle.records.specs.RecordLaws.{Bounds, quorum-max}
 use Rattle.protocol.specs.Transcript.{combinedAt}

@@ -26,10 +26,10 @@ pub fn row_passes(
     let numbers = challenges.numbers;
     let qual = complaints.unblamed(setup.n, dealings.dealers);
     let quorum = records::quorum(setup.t, setup.a) as u8;
-    let x = interpolation::point(records::byte(bytes, 2), 0);
+    let x = points::point(records::byte(bytes, 2), 0);
     let key = setup.key_at(x);
-    let at_slots = interpolation::slot_points(setup.a).weights(x);
-    let at_points = interpolation::committed_points(setup.a, quorum).weights(x);
+    let at_slots = points::slot_points(setup.a).weights(x);
+    let at_points = points::committed_points(setup.a, quorum).weights(x);
     let mut powers = dealings.commitments;
     let mut passed = true;
     'row: for u in 0..records::batch(setup.n, setup.t) {
@@ -70,7 +70,7 @@ pub fn combined_at(
     let powers = combination::powers_at(list, n, u);
     let qual = complaints.unblamed(n, dealings.dealers);
     let values = combination::combined_values(powers, qual, n, quorum);
-    interpolation::committed_points(setup.a, quorum)
+    points::committed_points(setup.a, quorum)
         .weights(x)
         .product(values)
 }

@@ -5,9 +5,9 @@ use console::print_number;
 use console::print_test;
 use field::Element;
 use field::Scalar;
-use interpolation::Row;
 use libc::STDOUT_FILENO;
 use replies::give;
+use rows::Row;
 use run::Run;
 
 fn begin_line(letter: &[u8]) {

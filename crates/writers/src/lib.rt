@@ -155,7 +155,7 @@ fn put_responses(out: &mut [u8], run: Run, j: u8, key: u32, shares: &[u32])
     let count = records::batch(n, run.setup.t);
     let qual = answers::unblamed(run);
     let challenges = run.challenges.numbers;
-    let weights = interpolation::slot_points(a).weights(interpolation::point(j, 0));
+    let weights = points::slot_points(a).weights(points::point(j, 0));
     for u in 0..count {
         let share = combined_share(qual, n, shares, u + 1);
         let challenge = weights.sum(arrays::challenge_values(challenges, a, u + 1));

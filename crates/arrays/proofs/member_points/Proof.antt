@@ -10,10 +10,10 @@ use Rattle.sets.specs.Masks.{has, members, count}
 use Rattle.sets.specs.MemberLaws.{count-before, count-bits}
 use Rattle.field.specs.declared.Scalar.{Scalar}
 use Rattle.field.specs.Definitions.{scalar}
-use Rattle.interpolation.specs.declared.Row.{Row}
+use Rattle.rows.specs.declared.Row.{Row}
 use Rattle.interpolation.specs.Definitions.{party}
 use Rattle.interpolation.specs.PointLaws.{party-is}
-use Rattle.interpolation.specs.RowLaws.{listed-is}
+use Rattle.rows.specs.RowLaws.{listed-is}
 use Rattle.arrays.specs.Arrays.{memberPoints}
 use Rattle.arrays.specs.LoopLaws.{chosen, Passed, passed-none, passed-skip, passed-take}
 use Rattle.arrays.proofs.member_points.Statement.{statement}

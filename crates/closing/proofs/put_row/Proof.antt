@@ -5,7 +5,7 @@ use native.Mathlib.Omega.{arith}
 use borrow.Author.Needs.{needs}
 use lib.ListN.{length}
 use Rattle.interpolation.specs.PointLaws.{slot-is}
-use Rattle.interpolation.specs.BasisLaws.{weights-by}
+use Rattle.rows.specs.BasisLaws.{weights-by}
 use Rattle.records.specs.RecordLaws.{Bounds, quorum-max}
 use Rattle.text.specs.Texts.{Wrote}
 use Rattle.text.specs.TextLaws.{wrote-none, wrote-length, wrote-append}

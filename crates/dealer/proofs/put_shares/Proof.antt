@@ -7,10 +7,10 @@ use borrow.Author.Needs.{needs}
 use lib.ListN.{length, getD}
 use Rattle.field.specs.declared.Scalar.{Scalar}
 use Rattle.field.specs.Definitions.{scalar}
-use Rattle.interpolation.specs.declared.Row.{Row}
+use Rattle.rows.specs.declared.Row.{Row}
 use Rattle.interpolation.specs.Definitions.{point, party, committedPoint}
 use Rattle.interpolation.specs.PointLaws.{party-is}
-use Rattle.interpolation.specs.Rows.{listed, weightsOf, sumOf}
+use Rattle.rows.specs.Definitions.{listed, weightsOf, sumOf}
 use Rattle.records.specs.Parameters.{quorum}
 use Rattle.records.specs.RecordLaws.{bounds-of, quorum-max}
 use Rattle.encoding.specs.StoreLaws.{Put, put-none, put-next}

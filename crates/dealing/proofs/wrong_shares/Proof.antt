@@ -5,7 +5,7 @@ use mathlib.Core.Logic.{⊎-elim}
 use mathlib.Core.Path.{_≡_, refl, ap, sym, _∙_}
 use Prim.Native.Nat.{ℕ, _+_, _-_, _≤_}
 use Rattle.sets.specs.Masks.{maskOf, insert}
-use Rattle.interpolation.specs.Rows.{weightsBy}
+use Rattle.rows.specs.Definitions.{weightsBy}
 use Rattle.interpolation.specs.PointLaws.{party-is}
 use Rattle.records.specs.RecordLaws.{bounds-of, quorum-max}
 use Rattle.dealing.proofs.Shares.{unfit, share-next, wrong-shares}

@@ -3,9 +3,9 @@ use native.Mathlib.Omega.{arith}
 use Prim.Native.Nat.{ℕ}
 use mathlib.Core.Path.{refl, ap, ap₂, _∙_}
 use Rattle.sets.specs.Masks.{has}
-use Rattle.interpolation.specs.declared.Row.{Row}
+use Rattle.rows.specs.declared.Row.{Row}
 use Rattle.interpolation.specs.Definitions.{committedPoint}
-use Rattle.interpolation.specs.Rows.{listed, weightsOf, productOf}
+use Rattle.rows.specs.Definitions.{listed, weightsOf, productOf}
 use Rattle.records.specs.RecordLaws.{bounds-of, quorum-max}
 use Rattle.arrays.specs.Arrays.{commitmentIn, elements}
 use Rattle.combination.specs.Combination.{combinedValue}

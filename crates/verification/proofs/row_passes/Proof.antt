@@ -11,8 +11,8 @@ use Rattle.lists.specs.Tests.{allTo}
 use Rattle.lists.specs.TestLaws.{all-next, fails-stays}
 use Rattle.field.specs.Definitions.{scalar, generator, product, raise, sameElement}
 use Rattle.interpolation.specs.PointLaws.{party-is}
-use Rattle.interpolation.specs.Rows.{sumOf, productOf}
-use Rattle.interpolation.specs.TurnLaws.{first, product-none, product-next}
+use Rattle.rows.specs.Definitions.{sumOf, productOf}
+use Rattle.rows.specs.TurnLaws.{first, product-none, product-next}
 use Rattle.records.specs.Parameters.{batch}
 use Rattle.records.specs.Bytes.{word, sender}
 use Rattle.records.specs.RecordLaws.{bounds-of, quorum-max, batch-max}

@@ -10,10 +10,10 @@ use lib.Seq.{sets}
 use Rattle.sets.specs.Masks.{has}
 use Rattle.field.specs.declared.Scalar.{Scalar}
 use Rattle.field.specs.Definitions.{scalar, plus, times}
-use Rattle.interpolation.specs.declared.Row.{Row}
+use Rattle.rows.specs.declared.Row.{Row}
 use Rattle.interpolation.specs.Definitions.{point, party, slot}
 use Rattle.interpolation.specs.PointLaws.{party-is}
-use Rattle.interpolation.specs.Rows.{listed, weightsOf, sumOf}
+use Rattle.rows.specs.Definitions.{listed, weightsOf, sumOf}
 use Rattle.records.specs.Parameters.{batch}
 use Rattle.encoding.specs.Bytes.{fours}
 use Rattle.encoding.specs.StoreLaws.{Put, put-none, put-next}

@@ -3,7 +3,7 @@ use borrow.Author.Needs.{needs}
 use native.Mathlib.Omega.{arith}
 use mathlib.Core.Path.{_∙_, _≡_, sym}
 use Rattle.interpolation.specs.Definitions.{slot}
-use Rattle.interpolation.specs.BasisLaws.{weights-by}
+use Rattle.rows.specs.BasisLaws.{weights-by}
 use Rattle.interpolation.specs.PointLaws.{slot-is}
 use Rattle.arrays.specs.ArrayLaws.{members-interpolated}
 use Rattle.response.specs.Definitions.{phiOf}

@@ -7,7 +7,7 @@ use Prim.Native.Nat.{ℕ, _+_, _*_, _-_, _/_, _%_, _≤_, _<_}
 use Rattle.lists.specs.Stores.{stored}
 use Rattle.field.specs.declared.Scalar.{Scalar}
 use Rattle.field.specs.Definitions.{plus}
-use Rattle.interpolation.specs.Rows.{basisOf}
+use Rattle.rows.specs.Definitions.{basisOf}
 use Rattle.records.specs.Parameters.{batch}
 use Rattle.records.specs.RecordLaws.{bounds-of, key-max, batch-max, cells-max}
 use Rattle.arrays.specs.Arrays.{memberPoints}

@@ -1,0 +1,4 @@
+pub mod Definitions
+pub mod RowLaws
+pub mod BasisLaws
+pub mod TurnLaws
