@@ -2,7 +2,7 @@
 use borrow.Author.Needs.{needs}
 use native.Mathlib.Omega.{arith}
 use mathlib.Core.Logic.{⊎-elim}
-use mathlib.Core.Path.{_≡_, sym}
+use mathlib.Core.Path.{_≡_, sym, _∙_}
 use Prim.Native.Nat.{_-_, _≤_, min}
 use Rattle.interpolation.specs.Definitions.{committedPoint}
 use Rattle.interpolation.specs.PointLaws.{committed-is}
@@ -43,10 +43,11 @@ loop-less c = search needs
 loop-again : tie.Need-loop-again Inv-loop μ-loop
 loop-again c =
     let a = c .before .before .before .before .args in
-    let l = c .before .before .loop in (
+    let l = c .before .before .loop in
+    let new : c .point .result ≡ committedPoint (a .a) (l .v) = c .point .ensures ∙ sym (committed-is (a .a) (l .v)) in (
       omega arith,
       l .inv .1,
-      rw (c .point .ensures, l .inv .2, ← committed-is) (sym (front-next (l .v) (committedPoint (a .a)))),
+      rw (new, l .inv .2) (sym (front-next (l .v) (committedPoint (a .a)))),
     )
 
 returns : tie.Need-returns Inv-loop μ-loop

@@ -2,7 +2,7 @@
 use borrow.Author.Needs.{needs}
 use native.Mathlib.Omega.{arith}
 use mathlib.Core.Logic.{⊎-elim}
-use mathlib.Core.Path.{_≡_, sym}
+use mathlib.Core.Path.{_≡_, sym, _∙_}
 use Prim.Native.Nat.{_+_, _-_, _≤_, min}
 use Rattle.interpolation.specs.Definitions.{slot}
 use Rattle.interpolation.specs.PointLaws.{slot-is}
@@ -42,10 +42,11 @@ loop-less c = search needs
 
 loop-again : tie.Need-loop-again Inv-loop μ-loop
 loop-again c =
-    let l = c .before .before .loop in (
+    let l = c .before .before .loop in
+    let new : c .point .result ≡ slot (l .v + 1) = c .point .ensures ∙ sym (slot-is (l .v + 1)) in (
       omega arith,
       l .inv .1,
-      rw (c .point .ensures, l .inv .2, ← slot-is) (sym (front-next (l .v) (λ k. slot (k + 1)))),
+      rw (new, l .inv .2) (sym (front-next (l .v) (λ k. slot (k + 1)))),
     )
 
 returns : tie.Need-returns Inv-loop μ-loop
