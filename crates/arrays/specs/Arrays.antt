@@ -10,7 +10,7 @@ use Rattle.field.specs.Definitions.{scalar, identity}
 use Rattle.rows.specs.declared.Row.{Row}
 use Rattle.interpolation.specs.Definitions.{party}
 use Rattle.rows.specs.Definitions.{mostScalars, listed}
-use Rattle.records.specs.Parameters.{stride}
+use Rattle.parameters.specs.Definitions.{stride}
 
 -- where party i's values begin
 unfoldable pub base : ℕ → ℕ

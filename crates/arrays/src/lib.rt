@@ -7,10 +7,10 @@ ghost use Rattle.rows.specs.Definitions.{mostScalars, productOf};
 ghost use Rattle.arrays.specs.Arrays.{challengeIn, memberPoints, memberNumbers, elements, scalars};
 use field::Element;
 use field::Scalar;
-use records::CELLS;
-use records::PARTIES;
-use records::PLACES;
-use records::STRIDE;
+use parameters::CELLS;
+use parameters::PARTIES;
+use parameters::PLACES;
+use parameters::STRIDE;
 use rows::ROW;
 use rows::Row;
 

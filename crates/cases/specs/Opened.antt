@@ -8,7 +8,7 @@ use Rattle.sets.specs.Masks.{bit, has, insert, minus, maskOf, membersFrom}
 use Rattle.field.specs.Definitions.{q, P, powerTo, powerOf, isScalar, isElement, reduced, plus, times, inverseTo, inverseOf, inverse, power, product, raise, sameElement, powered}
 use Rattle.field.specs.Definitions as F
 use Rattle.interpolation.specs.Definitions.{point, factor, weight, scalarAt, elementAt, party, slot, committedPoint}
-use Rattle.records.specs.Parameters.{inBounds, quorum, batch}
+use Rattle.parameters.specs.Definitions.{inBounds, quorum, batch}
 use Rattle.records.specs.Bytes.{byteAt, numberAt, word}
 use Rattle.records.specs.Tags.{tagOf, setupLength, dealingLength, complaintLength, challengesLength, shiftedLength, responseLength, sharesFrom}
 use Rattle.refusals.specs.Refusals.{setupRefusal, headRefusal, dealingRefusal, maskFits, complaintRefusal, scalarsRefusal, challengesRefusal, shiftedRefusal, responseRefusal}

@@ -4,7 +4,7 @@ use mathlib.Core.List.{List}
 use Rattle.lists.specs.Stores.{stored, filled}
 use Rattle.field.specs.declared.Scalar.{Scalar}
 use Rattle.field.specs.Definitions.{scalar}
-use Rattle.records.specs.Parameters.{cells, batch}
+use Rattle.parameters.specs.Definitions.{cells, batch}
 use Rattle.records.specs.Bytes.{word}
 use Rattle.dealing.specs.declared.Setup.{Setup}
 use Rattle.challenge.specs.declared.Challenges.{Challenges}

@@ -6,7 +6,7 @@ ghost use Rattle.records.specs.Bytes.{word};
 ghost use Rattle.challenge.specs.Definitions.{challengesFrom, withChallenges, withShifted};
 use dealing::Setup;
 use field::Scalar;
-use records::CELLS;
+use parameters::CELLS;
 
 // The challenges of the accepted CH or CS, u outer, and the shift δ: that of the CS, and 0 with a CH or before either.
 pub struct Challenges {
@@ -34,7 +34,7 @@ impl Challenges {
         ensures { λ r. ⌜ r ≡ challengesFrom setup self from (now (bytes .entry)) ⌝ }
     {
         let list = self.numbers;
-        let count = setup.a as u16 * records::batch(setup.n, setup.t) as u16;
+        let count = setup.a as u16 * parameters::batch(setup.n, setup.t) as u16;
         load_challenges(list, bytes, from, count)
     }
 

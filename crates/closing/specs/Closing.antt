@@ -5,7 +5,7 @@ use lib.Dec.{eqb}
 use Rattle.lists.specs.Tests.{pick}
 use Rattle.field.specs.declared.Scalar.{Scalar}
 use Rattle.field.specs.declared.Element.{Element}
-use Rattle.records.specs.Parameters.{cells, batch}
+use Rattle.parameters.specs.Definitions.{cells, batch}
 use Rattle.text.specs.Lines.{line, setLine}
 use Rattle.protocol.specs.Transcript.{shiftedNonce}
 use Rattle.run.specs.declared.Run.{Run}

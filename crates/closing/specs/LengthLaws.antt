@@ -7,8 +7,8 @@ use lib.Dec.{eqb}
 use borrow.Author.Tests.{eqb-true}
 use Rattle.lists.specs.Tests.{pick}
 use Rattle.lists.specs.TestLaws.{pick-case}
-use Rattle.records.specs.Parameters.{mostParties, batch}
-use Rattle.records.specs.RecordLaws.{cells-max}
+use Rattle.parameters.specs.Definitions.{mostParties, batch}
+use Rattle.parameters.specs.ParameterLaws.{cells-max}
 use Rattle.text.specs.LineLaws.{line-max, setLine-max}
 use Rattle.run.specs.declared.Run.{Run}
 use Rattle.run.specs.Runs.{stageOf}

@@ -13,8 +13,8 @@ use Rattle.field.specs.declared.Element.{Element}
 use Rattle.field.specs.Definitions.{scalar, generator, product, raise}
 use Rattle.interpolation.specs.Definitions.{slot, committedPoint}
 use Rattle.rows.specs.Definitions.{listed, weightsOf, productOf}
-use Rattle.records.specs.Parameters.{cells, quorum, batch}
-use Rattle.records.specs.RecordLaws.{Bounds, cells-max}
+use Rattle.parameters.specs.Definitions.{cells, quorum, batch}
+use Rattle.parameters.specs.ParameterLaws.{Bounds, cells-max}
 use Rattle.text.specs.LineLaws.{line-max}
 use Rattle.protocol.specs.Transcript.{nonce, shiftedElement, shiftedNonce}
 use Rattle.arrays.specs.Arrays.{cell, commitmentIn, elements}

@@ -3,7 +3,7 @@ ghost use mathlib.Core.Path.{_≡_};
 ghost use mathlib.Core.Bool.{true};
 ghost use Prim.Native.Nat.{_+_, _*_, _-_, _≤_, _<_};
 ghost use lib.ListN.{length};
-ghost use Rattle.records.specs.Parameters.{mostParties, batch};
+ghost use Rattle.parameters.specs.Definitions.{mostParties, batch};
 ghost use Rattle.text.specs.Texts.{Wrote};
 ghost use Rattle.combination.specs.Combination.{powersAt};
 ghost use Rattle.run.specs.Runs.{wellFormed};
@@ -11,7 +11,7 @@ ghost use Rattle.closing.specs.Closing.{mostLine, mostLines, mostClosing
 ghost use Rattle.closing.specs.SignatureLaws.{rowLines};
 use field::Element;
 use field::Scalar;
-use records::PLACES;
+use parameters::PLACES;
 use run::Run;
 
 // The line of a signature.
@@ -31,7 +31,7 @@ fn put_row(out: &mut [u8], at: usize, run: Run, powers: [Element; PLACES], u: u8
     let shift = run.challenges.shift;
     let moved = Element::GENERATOR.pow(shift);
     let a = run.setup.a;
-    let quorum = records::quorum(run.setup.t, a) as u8;
+    let quorum = parameters::quorum(run.setup.t, a) as u8;
     let values = combination::combined_values(powers, answers::unblamed(run), run.setup.n, quorum);
     let basis = points::committed_points(a, quorum).basis();
     let first = (u - 1) as usize * a as usize;
@@ -52,7 +52,7 @@ fn put_signatures(out: &mut [u8], at: usize, run: Run) -> usize
     requires { ⌜ (wellFormed run ≡ true) × (at + mostLines ≤ length (now out)) ⌝ }
     ensures { λ r. ⌜ Wrote (now (out .entry)) (now (out .exit)) at r (signatureLines run (run .setup .a * batch (run .setup .n) (run .setup .t))) ⌝ }
 {
-    let count = records::batch(run.setup.n, run.setup.t);
+    let count = parameters::batch(run.setup.n, run.setup.t);
     let mut powers = run.dealings.commitments;
     let mut next = at;
     for u in 0..count {

@@ -6,7 +6,7 @@ use lib.ListN.{getD}
 use Rattle.lists.specs.Stores.{stored}
 use Rattle.field.specs.declared.Element.{Element}
 use Rattle.field.specs.Definitions.{identity, powered}
-use Rattle.records.specs.Parameters.{stride}
+use Rattle.parameters.specs.Definitions.{stride}
 use Rattle.protocol.specs.Transcript.{exponent, productOver}
 
 -- the committed values combined for u: at v the product over a set of dealers of V_i(v)^(i^(u-1))

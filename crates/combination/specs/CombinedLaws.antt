@@ -6,7 +6,7 @@ use Rattle.field.specs.declared.Scalar.{Scalar}
 use Rattle.field.specs.declared.Element.{Element}
 use Rattle.interpolation.specs.Definitions.{committedPoint, elementAt}
 use Rattle.interpolation.specs.ProductLaws.{elementAt-combined}
-use Rattle.records.specs.Parameters.{quorum}
+use Rattle.parameters.specs.Definitions.{quorum}
 use Rattle.protocol.specs.Transcript.{Transcript, dealingAt, exponent, productOver, combinedAt, dealerFactor}
 use Rattle.combination.specs.Combination.{combinedValue}
 use Rattle.protocol.specs.ProductLaws.{productOver-cong}

@@ -14,7 +14,7 @@ use Rattle.field.specs.declared.Element.{Element}
 use Rattle.field.specs.Definitions.{identity, powered}
 use Rattle.field.specs.ElementLaws.{identity-powered, powered-powered, powered-swap}
 use Rattle.rows.specs.Definitions.{mostScalars}
-use Rattle.records.specs.Parameters.{stride}
+use Rattle.parameters.specs.Definitions.{stride}
 use Rattle.protocol.specs.Transcript.{exponent}
 use Rattle.protocol.specs.ProductLaws.{productOver-cong, exponent-first}
 use Rattle.arrays.specs.Arrays.{base, commitmentIn, elements}

@@ -7,9 +7,9 @@ ghost use Rattle.arrays.specs.Arrays.{commitmentIn, elements};
 ghost use Rattle.combination.specs.Combination.{combinedValue, raised, powersAt};
 use field::Element;
 use field::Scalar;
-use records::MOST_PARTIES;
-use records::PLACES;
-use records::STRIDE;
+use parameters::MOST_PARTIES;
+use parameters::PLACES;
+use parameters::STRIDE;
 use rows::ROW;
 use rows::Row;
 

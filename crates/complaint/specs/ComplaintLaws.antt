@@ -16,7 +16,7 @@ use Rattle.algebra.specs.FoldLaws.{fold-cong, fold-keeps}
 use Rattle.lists.specs.TestLaws.{pick-case}
 use Rattle.sets.specs.Masks.{has, insert}
 use Rattle.sets.specs.MaskLaws.{has-none, has-zero, has-or, has-insert}
-use Rattle.records.specs.Parameters.{mostParties}
+use Rattle.parameters.specs.Definitions.{mostParties}
 use Rattle.records.specs.Bytes.{numberAt, sender}
 use Rattle.complaint.specs.declared.Complaints.{Complaints}
 use Rattle.complaint.specs.Definitions.{noComplaints, withComplaint, maskBy, blamedBy}

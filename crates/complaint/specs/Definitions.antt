@@ -9,7 +9,7 @@ use Rattle.algebra.specs.Fold.{fold}
 use Rattle.lists.specs.Tests.{pick, allTo, require, orNext}
 use Rattle.lists.specs.Stores.{filled}
 use Rattle.sets.specs.Masks.{has, insert, minus, count}
-use Rattle.records.specs.Parameters.{mostParties}
+use Rattle.parameters.specs.Definitions.{mostParties}
 use Rattle.records.specs.Bytes.{numberAt, sender}
 use Rattle.refusals.specs.Refusals.{complaintRefusal}
 use Rattle.dealing.specs.declared.Setup.{Setup}

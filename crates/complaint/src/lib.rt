@@ -8,8 +8,8 @@ ghost use Rattle.dealing.specs.Definitions.{mayBlame};
 ghost use Rattle.complaint.specs.Definitions.{maskBy, blamedBy, unblamed, complaintNumber, withComplaint, complaintStage};
 use dealing::Dealings;
 use dealing::Setup;
-use records::MOST_PARTIES;
-use records::PARTIES;
+use parameters::MOST_PARTIES;
+use parameters::PARTIES;
 
 // The accepted complaint rows (verdicts, in document 01). Holder j's mask stands at j - 1.
 pub struct Complaints {

@@ -8,7 +8,7 @@ use Rattle.lists.specs.Tests.{allTo, require}
 use Rattle.field.specs.declared.Scalar.{Scalar}
 use Rattle.field.specs.Definitions.{scalar, isScalar}
 use Rattle.interpolation.specs.Definitions.{party, committedPoint, scalarAt}
-use Rattle.records.specs.Parameters.{inBounds, quorum, isParty}
+use Rattle.parameters.specs.Definitions.{inBounds, quorum, isParty}
 use Rattle.records.specs.Tags.{letterD, letterE, letterS, letterU, setupLength, dealingLength}
 use Rattle.encoding.specs.Bytes.{four, fours, powerOfFour}
 

@@ -11,7 +11,7 @@ use Rattle.field.specs.ElementLaws.{generator-element, is-same}
 use Rattle.interpolation.specs.Definitions.{party, committedPoint}
 use Rattle.interpolation.specs.WeightLaws.{elementAt-cong}
 use Rattle.interpolation.specs.PointLaws.{scalarAt-range, raise-scalarAt}
-use Rattle.records.specs.Parameters.{quorum}
+use Rattle.parameters.specs.Definitions.{quorum}
 use Rattle.records.specs.Bytes.{byteAt, numberAt, word}
 use Rattle.records.specs.Tags.{letterD, letterE, letterS, letterU, setupLength, dealingLength, sharesFrom}
 use Rattle.refusals.specs.Refusals.{setupRefusal, dealingRefusal}

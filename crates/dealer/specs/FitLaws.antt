@@ -7,9 +7,9 @@ use native.Mathlib.Omega.{arith}
 use lib.ListN.{length}
 use borrow.Author.Tests.{eqb-true}
 use Rattle.lists.specs.TestLaws.{passed}
-use Rattle.records.specs.Parameters.{quorum}
+use Rattle.parameters.specs.Definitions.{quorum}
 use Rattle.records.specs.Tags.{setupLength, dealingLength}
-use Rattle.records.specs.RecordLaws.{Bounds, bounds-of, party-of}
+use Rattle.parameters.specs.ParameterLaws.{Bounds, bounds-of, party-of}
 use Rattle.dealer.specs.Dealt.{setupRefused, dealingRefused}
 
 -- ---- SU

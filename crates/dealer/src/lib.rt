@@ -8,7 +8,7 @@ ghost use lib.Seq.{sets};
 ghost use Rattle.lists.specs.Tests.{pick, allTo};
 ghost use Rattle.field.specs.Definitions.{scalar, isScalar};
 ghost use Rattle.rows.specs.Definitions.{mostScalars};
-ghost use Rattle.records.specs.Parameters.{inBounds, quorum};
+ghost use Rattle.parameters.specs.Definitions.{inBounds, quorum};
 ghost use Rattle.encoding.specs.Bytes.{fours};
 ghost use Rattle.arrays.specs.Arrays.{scalars};
 ghost use Rattle.dealer.specs.Dealt.{setupRefused, setupBytes, dealingRefused, shareFor, dealingBytes};
@@ -45,7 +45,7 @@ fn load_scalars(list: &[u32]) -> [Scalar; ROW]
 fn setup_refused(n: u8, t: u8, a: u8, s: u32, shares: &[u32], room: usize) -> u8
     ensures { λ r. ⌜ r ≡ setupRefused n t a s (now (shares .entry)) room ⌝ }
 {
-    if !records::in_bounds(n, t, a) {
+    if !parameters::in_bounds(n, t, a) {
         return 4;
     }
     if shares.len() != t as usize {
@@ -87,13 +87,13 @@ pub fn write_setup(n: u8, t: u8, a: u8, s: u32, shares: &[u32], out: &mut [u8]) 
 fn dealing_refused(n: u8, t: u8, a: u8, i: u8, values: &[u32], room: usize) -> u8
     ensures { λ r. ⌜ r ≡ dealingRefused n t a i (now (values .entry)) room ⌝ }
 {
-    if !records::in_bounds(n, t, a) {
+    if !parameters::in_bounds(n, t, a) {
         return 4;
     }
-    if !records::is_party(n, i) {
+    if !parameters::is_party(n, i) {
         return 5;
     }
-    if values.len() != records::quorum(t, a) as usize {
+    if values.len() != parameters::quorum(t, a) as usize {
         return 10;
     }
     if !all_scalars(values) {
@@ -111,7 +111,7 @@ fn put_shares(out: &mut [u8], at: usize, n: u8, t: u8, a: u8, values: &[u32])
     ensures { λ _. ⌜ now (out .exit) ≡ sets (now (out .entry)) at (fours n (λ j. shareFor t a (now (values .entry)) (j + 1) .0)) ⌝ }
 {
     let list = load_scalars(values);
-    let points = points::committed_points(a, records::quorum(t, a) as u8);
+    let points = points::committed_points(a, parameters::quorum(t, a) as u8);
     for j in 0..n {
         let weights = points.weights(points::point(j + 1, 0));
         let share = weights.sum(list);

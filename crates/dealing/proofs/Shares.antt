@@ -14,10 +14,10 @@ use Rattle.rows.specs.declared.Basis.{Basis}
 use Rattle.interpolation.specs.Definitions.{party, committedPoint}
 use Rattle.rows.specs.Definitions.{listed, productOf, basisOf, weightsBy}
 use Rattle.rows.specs.BasisLaws.{weights-by}
-use Rattle.records.specs.Parameters.{inBounds, quorum}
+use Rattle.parameters.specs.Definitions.{inBounds, quorum}
 use Rattle.records.specs.Bytes.{word}
 use Rattle.records.specs.Tags.{sharesFrom}
-use Rattle.records.specs.RecordLaws.{bounds-of, quorum-max}
+use Rattle.parameters.specs.ParameterLaws.{bounds-of, quorum-max}
 use Rattle.protocol.specs.Transcript.{dealingAt, validShare}
 use Rattle.arrays.specs.Arrays.{elements}
 use Rattle.arrays.specs.ArrayLaws.{values-interpolated}

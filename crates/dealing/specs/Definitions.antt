@@ -8,7 +8,7 @@ use Rattle.lists.specs.Stores.{stored, filled}
 use Rattle.sets.specs.Masks.{has, insert, maskOf}
 use Rattle.field.specs.declared.Element.{Element}
 use Rattle.field.specs.Definitions.{scalar, element, identity}
-use Rattle.records.specs.Parameters.{mostParties, places, quorum}
+use Rattle.parameters.specs.Definitions.{mostParties, places, quorum}
 use Rattle.records.specs.Bytes.{byteAt, word, sender}
 use Rattle.records.specs.Tags.{sharesFrom}
 use Rattle.refusals.specs.Refusals.{dealingRefusal}

@@ -4,17 +4,17 @@ ghost use mathlib.Core.Bool.{true};
 ghost use Prim.Native.Nat.{_+_, _≤_};
 ghost use Rattle.lists.specs.Stores.{stored, filled};
 ghost use Rattle.field.specs.Definitions.{element, identity};
-ghost use Rattle.records.specs.Parameters.{mostParties, inBounds};
+ghost use Rattle.parameters.specs.Definitions.{mostParties, inBounds};
 ghost use Rattle.records.specs.Bytes.{word, sender};
 ghost use Rattle.protocol.specs.Transcript.{keyAt};
 ghost use Rattle.arrays.specs.Arrays.{elements};
 ghost use Rattle.dealing.specs.Definitions.{setupOf, keyIn, dealingNumber, wrongShares, withDealing, mayBlame};
 use field::Element;
 use field::Scalar;
-use records::MOST_PARTIES;
-use records::PARTIES;
-use records::PLACES;
-use records::STRIDE;
+use parameters::MOST_PARTIES;
+use parameters::PARTIES;
+use parameters::PLACES;
+use parameters::STRIDE;
 use rows::ROW;
 
 // The accepted setup: the parameters, and S, S_1 to S_t.
@@ -85,7 +85,7 @@ fn wrong_shares(setup: Setup, bytes: &[u8]) -> u64
     requires { ⌜ inBounds (setup .n) (setup .t) (setup .a) ≡ true ⌝ }
     ensures { λ r. ⌜ r ≡ wrongShares setup (now (bytes .entry)) ⌝ }
 {
-    let quorum = records::quorum(setup.t, setup.a);
+    let quorum = parameters::quorum(setup.t, setup.a);
     let values = load_values(bytes, quorum);
     let basis = points::committed_points(setup.a, quorum as u8).basis();
     let from = records::shares_from(setup.t, setup.a);
@@ -161,7 +161,7 @@ impl Dealings {
             list,
             before as u16 * STRIDE as u16,
             bytes,
-            records::quorum(setup.t, setup.a),
+            parameters::quorum(setup.t, setup.a),
         );
         let mut wrong = self.wrong;
         let at = before as usize;

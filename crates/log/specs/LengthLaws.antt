@@ -14,7 +14,7 @@ use Rattle.lists.specs.Tests.{pick}
 use Rattle.lists.specs.TestLaws.{pick-case}
 use Rattle.records.specs.Bytes.{byteAt}
 use Rattle.records.specs.Tags.{Tag, SU, DE, VE, CH, CS, RE, unknown, tagOf, setupLength, dealingLength, complaintLength, challengesLength, shiftedLength, responseLength}
-use Rattle.records.specs.RecordLaws.{Bounds, quorum-pos, batch-pos}
+use Rattle.parameters.specs.ParameterLaws.{Bounds, quorum-pos, batch-pos}
 use Rattle.text.specs.Lines.{line}
 use Rattle.text.specs.LineLaws.{line-max}
 use Rattle.run.specs.declared.Run.{Run}

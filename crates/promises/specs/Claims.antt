@@ -11,7 +11,7 @@ use Rattle.sets.specs.Masks.{count, has, members}
 use Rattle.field.specs.Definitions.{generator, IsScalar, product, raise, scalar}
 use Rattle.field.specs.declared.Scalar.{Scalar}
 use Rattle.field.specs.declared.Element.{Element}
-use Rattle.records.specs.Parameters.{quorum, batch}
+use Rattle.parameters.specs.Definitions.{quorum, batch}
 use Rattle.records.specs.Bytes.{sender, numberAt, word}
 use Rattle.records.specs.Tags.{SU, DE, VE, CH, CS, RE, tagOf, sharesFrom}
 use Rattle.refusals.specs.Refusals.{complaintRefusal}

@@ -18,7 +18,7 @@ use Rattle.field.specs.ScalarLaws.{plus-range}
 use Rattle.field.specs.ElementLaws.{generator-unique, same-is}
 use Rattle.interpolation.specs.Definitions.{party}
 use Rattle.interpolation.specs.PointLaws.{scalarAt-range}
-use Rattle.records.specs.Parameters.{mostParties, quorum, batch}
+use Rattle.parameters.specs.Definitions.{mostParties, quorum, batch}
 use Rattle.records.specs.Bytes.{word, sender}
 use Rattle.records.specs.Tags.{RE}
 use Rattle.protocol.specs.Transcript.{Transcript, passes, nonce, shiftedNonce, responseAt}

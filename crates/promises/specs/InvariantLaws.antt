@@ -14,11 +14,11 @@ use Rattle.lists.specs.StoreLaws.{stored-from, length-filled}
 use Rattle.sets.specs.Masks.{has, count}
 use Rattle.field.specs.Definitions.{scalar, element, IsElement, identity}
 use Rattle.protocol.specs.Transcript.{Transcript, passes}
-use Rattle.records.specs.Parameters.{mostParties, places, cells, quorum, batch}
+use Rattle.parameters.specs.Definitions.{mostParties, places, cells, quorum, batch}
 use Rattle.records.specs.Bytes.{byteAt, numberAt, word, sender}
 use Rattle.records.specs.Tags.{Tag, SU, DE, VE, CH, CS, RE}
 use Rattle.refusals.specs.Refusals.{setupRefusal, dealingRefusal}
-use Rattle.records.specs.RecordLaws.{Bounds, key-max}
+use Rattle.parameters.specs.ParameterLaws.{Bounds, key-max}
 use Rattle.refusals.specs.RefusalLaws.{setup-passed, dealing-passed}
 use Rattle.dealing.specs.declared.Setup.{Setup}
 use Rattle.dealing.specs.declared.Dealings.{Dealings}

@@ -13,10 +13,10 @@ use Rattle.lists.specs.StoreLaws.{length-stored, length-filled}
 use Rattle.sets.specs.Masks.{has, insert}
 use Rattle.sets.specs.MaskLaws.{has-insert, has-above}
 use Rattle.field.specs.Definitions.{scalar, element, identity}
-use Rattle.records.specs.Parameters.{mostParties, places, quorum, batch}
+use Rattle.parameters.specs.Definitions.{mostParties, places, quorum, batch}
 use Rattle.records.specs.Bytes.{numberAt, sender}
 use Rattle.refusals.specs.Refusals.{dealingRefusal}
-use Rattle.records.specs.RecordLaws.{Bounds, quorum-max, batch-max}
+use Rattle.parameters.specs.ParameterLaws.{Bounds, quorum-max, batch-max}
 use Rattle.refusals.specs.RefusalLaws.{dealing-passed, complaint-passed, response-passed}
 use Rattle.dealing.specs.declared.Setup.{Setup}
 use Rattle.dealing.specs.declared.Dealings.{Dealings}

@@ -13,12 +13,12 @@ use Rattle.lists.specs.MemberLaws.{all-snoc}
 use Rattle.lists.specs.StoreLaws.{length-stored, stored-from, length-filled, getD-filled}
 use Rattle.sets.specs.Masks.{has, count}
 use Rattle.field.specs.Definitions.{scalar}
-use Rattle.records.specs.Parameters.{cells, quorum, batch}
+use Rattle.parameters.specs.Definitions.{cells, quorum, batch}
 use Rattle.records.specs.Bytes.{byteAt, numberAt, word}
 use Rattle.records.specs.Tags.{Tag, SU, DE, VE, CH, CS, RE, unknown, tagOf}
 use Rattle.refusals.specs.Refusals.{setupRefusal, challengesRefusal, shiftedRefusal}
 use Rattle.refusals.specs.RefusalLaws.{setup-passed}
-use Rattle.records.specs.RecordLaws.{cells-max, quorum-pos}
+use Rattle.parameters.specs.ParameterLaws.{cells-max, quorum-pos}
 use Rattle.dealing.specs.declared.Setup.{Setup}
 use Rattle.dealing.specs.declared.Dealings.{Dealings}
 use Rattle.complaint.specs.declared.Complaints.{Complaints}

@@ -9,7 +9,7 @@ use Rattle.sets.specs.Masks.{has, count}
 use Rattle.field.specs.declared.Scalar.{Scalar}
 use Rattle.field.specs.Definitions.{scalar, element, plus}
 use Rattle.interpolation.specs.Definitions.{party, slot, scalarAt}
-use Rattle.records.specs.Parameters.{quorum}
+use Rattle.parameters.specs.Definitions.{quorum}
 use Rattle.records.specs.Bytes.{byteAt, numberAt, word, sender}
 use Rattle.records.specs.Tags.{Tag, SU, DE, VE, CH, CS, RE, code, tagOf}
 use Rattle.run.specs.declared.Run.{Run}

@@ -9,7 +9,7 @@ use Rattle.lists.specs.TestLaws.{and-left, pick-same}
 use Rattle.lists.specs.Members.{Distinct}
 use Rattle.sets.specs.Masks.{has, count}
 use Rattle.sets.specs.MemberLaws.{same-members}
-use Rattle.records.specs.Parameters.{batch}
+use Rattle.parameters.specs.Definitions.{batch}
 use Rattle.records.specs.Bytes.{sender}
 use Rattle.records.specs.Tags.{SU, DE, VE, CH, CS}
 use Rattle.protocol.specs.Alike.{Alike}

@@ -14,7 +14,7 @@ use Rattle.sets.specs.MaskLaws.{has-zero}
 use Rattle.sets.specs.MemberLaws.{members-cong}
 use Rattle.field.specs.declared.Element.{Element}
 use Rattle.field.specs.Definitions.{generator, product, raise}
-use Rattle.records.specs.Parameters.{batch}
+use Rattle.parameters.specs.Definitions.{batch}
 use Rattle.protocol.specs.Transcript.{shiftedNonce}
 use Rattle.protocol.specs.AlikeLaws.{shifted-same}
 use Rattle.verification.specs.Definitions.{transcript}

@@ -5,7 +5,7 @@ use Prim.Native.Nat.{ℕ, zero, suc, _+_, _*_, _-_, _/_, _%_, _≤_, _<_}
 use native.Mathlib.Omega.{arith}
 use native.Mathlib.Nat.{add-comm, add-mul-div-right, add-mul-mod-self-right, div-eq-of-lt, mod-eq-of-lt, mul-le-mul-left, mod-lt, div-lt-iff-lt-mul}
 use borrow.Author.Tests.{leb-true}
-use Rattle.records.specs.Parameters.{batch}
+use Rattle.parameters.specs.Definitions.{batch}
 use Rattle.protocol.specs.Transcript.{Transcript}
 use Rattle.arrays.specs.Arrays.{cell}
 use Rattle.promises.specs.Places.{Within, isPlace}

@@ -18,7 +18,7 @@ use Rattle.lists.specs.StoreLaws.{stored-at, stored-other}
 use Rattle.sets.specs.Masks.{has, insert, count}
 use Rattle.sets.specs.MaskLaws.{has-none, has-zero, has-insert}
 use Rattle.sets.specs.MemberLaws.{no-members, more-members, count-le}
-use Rattle.records.specs.Parameters.{mostParties, stride, places}
+use Rattle.parameters.specs.Definitions.{mostParties, stride, places}
 use Rattle.records.specs.Bytes.{word, sender}
 use Rattle.arrays.specs.Arrays.{base}
 use Rattle.promises.specs.Lists.{some, sentBy, recordOf}

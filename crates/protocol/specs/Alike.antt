@@ -2,7 +2,7 @@
 use mathlib.Core.Path.{_≡_}
 use mathlib.Core.Bool.{true}
 use Prim.Native.Nat.{ℕ, _≤_, _<_}
-use Rattle.records.specs.Parameters.{quorum, batch}
+use Rattle.parameters.specs.Definitions.{quorum, batch}
 use Rattle.protocol.specs.Transcript.{Transcript}
 
 pub record Alike (w z : Transcript) : Type 0 where

@@ -7,7 +7,7 @@ use Rattle.field.specs.declared.Element.{Element}
 use Rattle.field.specs.Definitions.{powered}
 use Rattle.interpolation.specs.Definitions.{slot, committedPoint, elementAt}
 use Rattle.interpolation.specs.WeightLaws.{elementAt-cong}
-use Rattle.records.specs.Parameters.{quorum}
+use Rattle.parameters.specs.Definitions.{quorum}
 use Rattle.protocol.specs.Transcript.{Transcript, dealingAt, exponent, productOver, combinedAt, nonce, shiftedElement, shiftedNonce, dealerFactor}
 use Rattle.protocol.specs.ProductLaws.{productOver-cong}
 use Rattle.protocol.specs.Alike.{Alike}

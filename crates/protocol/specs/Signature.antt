@@ -14,8 +14,8 @@ use Rattle.interpolation.specs.PointLaws.{committed-distinct, slots-distinct, p
 use Rattle.interpolation.specs.PolynomialLaws.{polynomial-interpolated}
 use Rattle.interpolation.specs.ExponentialLaws.{Exponential, exponential-wider, exponential-interpolated, exponential-product, exponential-raise, exponential-powered, exponential-pick, exponential-fold, exact-elements}
 use Rattle.interpolation.specs.WeightLaws.{elementAt-cong}
-use Rattle.records.specs.Parameters.{quorum}
-use Rattle.records.specs.RecordLaws.{Bounds, quorum-is}
+use Rattle.parameters.specs.Definitions.{quorum}
+use Rattle.parameters.specs.ParameterLaws.{Bounds, quorum-is}
 use Rattle.protocol.specs.Transcript.{Transcript, dealingAt, keyAt, exponent, productOver, combinedAt, nonce, challengeAt, responseAt, dealerFactor}
 
 -- what a run at stage 4 keeps: parameters within the bounds, a key and commitments of QUAL that are elements

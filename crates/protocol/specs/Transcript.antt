@@ -7,7 +7,7 @@ use Rattle.field.specs.declared.Scalar.{Scalar}
 use Rattle.field.specs.declared.Element.{Element}
 use Rattle.field.specs.Definitions.{scalar, identity, generator, sameElement, power, product, powered, raise}
 use Rattle.interpolation.specs.Definitions.{party, slot, committedPoint, scalarAt, elementAt}
-use Rattle.records.specs.Parameters.{quorum}
+use Rattle.parameters.specs.Definitions.{quorum}
 
 -- key 0 is S and key j is S_j; commitment i v is V(v + 1 - a) of dealer i; challenge u k is e(u,k); shift is δ
 pub record Transcript : Type 0 where

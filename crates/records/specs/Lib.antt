@@ -1,4 +1,3 @@
-pub mod Parameters
 pub mod Bytes
 pub mod Tags
 pub mod RecordLaws

@@ -4,7 +4,7 @@ use mathlib.Core.List.{List}
 use lib.ListN.{length}
 use lib.Dec.{eqb, ltb}
 use Rattle.lists.specs.Tests.{pick}
-use Rattle.records.specs.Parameters.{quorum, batch}
+use Rattle.parameters.specs.Definitions.{quorum, batch}
 use Rattle.records.specs.Bytes.{byteAt}
 
 -- VE is a complaint row (verdict, in document 01); CS has a shift before the challenges of a CH

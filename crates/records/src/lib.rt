@@ -1,24 +1,7 @@
-// Records: parameters, numbers, tags and lengths.
+// Records: bytes, numbers, tags and lengths.
 ghost use mathlib.Core.Path.{_≡_};
-ghost use Rattle.records.specs.Parameters.{inBounds, quorum, batch, isParty};
 ghost use Rattle.records.specs.Bytes.{byteAt, numberAt, word};
 ghost use Rattle.records.specs.Tags.{code, tagOf, setupLength, dealingLength, complaintLength, challengesLength, shiftedLength, responseLength, sharesFrom};
-use field::Element;
-use field::Scalar;
-
-// The most parties that a committee has.
-pub const MOST_PARTIES: u8 = 32;
-
-// As many places as parties.
-pub const PARTIES: usize = MOST_PARTIES as usize;
-
-// The places of one party's values in a flat array, and of all parties' values.
-pub const STRIDE: usize = 32;
-
-pub const PLACES: usize = PARTIES * STRIDE;
-
-// The places of the challenges, and of the numbers φ(u,k).
-pub const CELLS: usize = 512;
 
 // The six tags, two letters each.
 const SU: u16 = b'S' as u16 * 256 + b'U' as u16;
@@ -32,47 +15,6 @@ const CH: u16 = b'C' as u16 * 256 + b'H' as u16;
 const CS: u16 = b'C' as u16 * 256 + b'S' as u16;
 
 const RE: u16 = b'R' as u16 * 256 + b'E' as u16;
-
-// Whether n parties, threshold t and packing a are within the bounds.
-pub fn in_bounds(n: u8, t: u8, a: u8) -> bool
-    ensures { λ r. ⌜ r ≡ inBounds n t a ⌝ }
-{
-    if t < 1 {
-        return false;
-    }
-    if a < 1 {
-        return false;
-    }
-    if MOST_PARTIES < n {
-        return false;
-    }
-    3 * t as u32 + 2 * a as u32 <= n as u32 + 1
-}
-
-// The quorum (need, in document 01): the committed values of a dealing, and the responses that a signature takes.
-pub fn quorum(t: u8, a: u8) -> u16
-    ensures { λ r. ⌜ r ≡ quorum t a ⌝ }
-{
-    let sum = t as u16 + 2 * a as u16;
-    if 0 < sum { sum - 1 } else { 0 }
-}
-
-// b, the signatures of a packed slot.
-pub fn batch(n: u8, t: u8) -> u8
-    ensures { λ r. ⌜ r ≡ batch n t ⌝ }
-{
-    let twice = 2 * t as u16;
-    if twice < n as u16 { n - twice as u8 } else { 0 }
-}
-
-pub fn is_party(n: u8, i: u8) -> bool
-    ensures { λ r. ⌜ r ≡ isParty n i ⌝ }
-{
-    if i < 1 {
-        return false;
-    }
-    i <= n
-}
 
 // The byte at a place, and 0 past the end.
 pub fn byte(s: &[u8], at: usize) -> u8
@@ -128,7 +70,7 @@ pub fn setup_length(t: u8) -> usize
 pub fn dealing_length(n: u8, t: u8, a: u8) -> usize
     ensures { λ r. ⌜ r ≡ dealingLength n t a ⌝ }
 {
-    4 + 4 * quorum(t, a) as usize + 4 * n as usize
+    4 + 4 * parameters::quorum(t, a) as usize + 4 * n as usize
 }
 
 pub fn complaint_length(n: u8) -> usize
@@ -140,7 +82,7 @@ pub fn complaint_length(n: u8) -> usize
 pub fn challenges_length(n: u8, t: u8, a: u8) -> usize
     ensures { λ r. ⌜ r ≡ challengesLength n t a ⌝ }
 {
-    4 + 4 * (a as usize * batch(n, t) as usize)
+    4 + 4 * (a as usize * parameters::batch(n, t) as usize)
 }
 
 pub fn shifted_length(n: u8, t: u8, a: u8) -> usize
@@ -152,12 +94,12 @@ pub fn shifted_length(n: u8, t: u8, a: u8) -> usize
 pub fn response_length(n: u8, t: u8) -> usize
     ensures { λ r. ⌜ r ≡ responseLength n t ⌝ }
 {
-    4 + 4 * batch(n, t) as usize
+    4 + 4 * parameters::batch(n, t) as usize
 }
 
 // Where the shares of a dealing begin.
 pub fn shares_from(t: u8, a: u8) -> u16
     ensures { λ r. ⌜ r ≡ sharesFrom t a ⌝ }
 {
-    4 + 4 * quorum(t, a)
+    4 + 4 * parameters::quorum(t, a)
 }

@@ -9,11 +9,11 @@ use lib.Dec.{leb}
 use borrow.Author.Tests.{le-leb, ltb-true, lt-ltb, eqb-true, eq-eqb}
 use Rattle.lists.specs.TestLaws.{and-right, all-at, all-make, require-pass, passed, or-next, next-pass}
 use Rattle.field.specs.Definitions.{isScalar, isElement}
-use Rattle.records.specs.Parameters.{quorum, batch}
+use Rattle.parameters.specs.Definitions.{quorum, batch}
 use Rattle.records.specs.Bytes.{byteAt, numberAt, word, sender}
 use Rattle.records.specs.Tags.{setupLength, dealingLength, complaintLength, responseLength, sharesFrom}
 use Rattle.refusals.specs.Refusals.{setupRefusal, headRefusal, dealingRefusal, maskFits, complaintRefusal, responseRefusal}
-use Rattle.records.specs.RecordLaws.{Bounds, bounds-of, bounds-test, party-of, party-test}
+use Rattle.parameters.specs.ParameterLaws.{Bounds, bounds-of, bounds-test, party-of, party-test}
 
 -- ---- a setup that is not refused
 

@@ -7,7 +7,7 @@ use lib.ListN.{length}
 use lib.Dec.{eqb, ltb, leb}
 use Rattle.lists.specs.Tests.{allTo, require, orNext}
 use Rattle.field.specs.Definitions.{isScalar, isElement}
-use Rattle.records.specs.Parameters.{inBounds, quorum, batch, isParty}
+use Rattle.parameters.specs.Definitions.{inBounds, quorum, batch, isParty}
 use Rattle.records.specs.Bytes.{byteAt, numberAt, word, sender}
 use Rattle.records.specs.Tags.{setupLength, dealingLength, complaintLength, challengesLength, shiftedLength, responseLength, sharesFrom}
 

@@ -58,7 +58,7 @@ pub fn setup_refusal(s: &[u8]) -> u8
     if records::byte(s, 5) != 0 {
         return 3;
     }
-    if !records::in_bounds(records::byte(s, 2), t, records::byte(s, 4)) {
+    if !parameters::in_bounds(records::byte(s, 2), t, records::byte(s, 4)) {
         return 4;
     }
     if !all_elements(s, 6, t as u16 + 1) {
@@ -77,7 +77,7 @@ fn head_refusal(n: u8, s: &[u8], size: usize) -> u8
     if records::byte(s, 3) != 0 {
         return 3;
     }
-    if !records::is_party(n, records::byte(s, 2)) {
+    if !parameters::is_party(n, records::byte(s, 2)) {
         return 5;
     }
     0
@@ -91,7 +91,7 @@ pub fn dealing_refusal(n: u8, t: u8, a: u8, s: &[u8]) -> u8
     if number != 0 {
         return number;
     }
-    if !all_elements(s, 4, records::quorum(t, a)) {
+    if !all_elements(s, 4, parameters::quorum(t, a)) {
         return 7;
     }
     if !all_scalars(s, records::shares_from(t, a), n as u16) {
@@ -138,7 +138,7 @@ pub fn challenges_refusal(n: u8, t: u8, a: u8, s: &[u8]) -> u8
     ensures { λ r. ⌜ r ≡ challengesRefusal n t a (now (s .entry)) ⌝ }
 {
     let size = records::challenges_length(n, t, a);
-    let count = a as u16 * records::batch(n, t) as u16;
+    let count = a as u16 * parameters::batch(n, t) as u16;
     scalars_refusal(s, size, count)
 }
 
@@ -147,7 +147,7 @@ pub fn shifted_refusal(n: u8, t: u8, a: u8, s: &[u8]) -> u8
     ensures { λ r. ⌜ r ≡ shiftedRefusal n t a (now (s .entry)) ⌝ }
 {
     let size = records::shifted_length(n, t, a);
-    let count = a as u16 * records::batch(n, t) as u16 + 1;
+    let count = a as u16 * parameters::batch(n, t) as u16 + 1;
     scalars_refusal(s, size, count)
 }
 
@@ -159,7 +159,7 @@ pub fn response_refusal(n: u8, t: u8, s: &[u8]) -> u8
     if number != 0 {
         return number;
     }
-    if !all_scalars(s, 4, records::batch(n, t) as u16) {
+    if !all_scalars(s, 4, parameters::batch(n, t) as u16) {
         return 6;
     }
     0

@@ -9,7 +9,7 @@ use Rattle.sets.specs.Masks.{has, insert, members}
 use Rattle.field.specs.declared.Scalar.{Scalar}
 use Rattle.field.specs.Definitions.{scalar, plus}
 use Rattle.interpolation.specs.Definitions.{party, slot, scalarAt}
-use Rattle.records.specs.Parameters.{places, batch}
+use Rattle.parameters.specs.Definitions.{places, batch}
 use Rattle.records.specs.Bytes.{word, sender}
 use Rattle.refusals.specs.Refusals.{responseRefusal}
 use Rattle.arrays.specs.Arrays.{base}

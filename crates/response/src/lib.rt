@@ -4,7 +4,7 @@ ghost use mathlib.Core.Bool.{true};
 ghost use Prim.Native.Nat.{_≤_};
 ghost use Rattle.lists.specs.Stores.{stored};
 ghost use Rattle.field.specs.Definitions.{scalar};
-ghost use Rattle.records.specs.Parameters.{inBounds};
+ghost use Rattle.parameters.specs.Definitions.{inBounds};
 ghost use Rattle.records.specs.Bytes.{word};
 ghost use Rattle.rows.specs.Definitions.{basisOf};
 ghost use Rattle.arrays.specs.Arrays.{memberPoints};
@@ -14,9 +14,9 @@ use complaint::Complaints;
 use dealing::Dealings;
 use dealing::Setup;
 use field::Scalar;
-use records::CELLS;
-use records::PLACES;
-use records::STRIDE;
+use parameters::CELLS;
+use parameters::PLACES;
+use parameters::STRIDE;
 use rows::Basis;
 
 // The accepted response rows. Holder j's numbers stand from (j - 1) × STRIDE.
@@ -78,7 +78,7 @@ impl Responses {
         let j = records::byte(bytes, 2);
         let before = arrays::predecessor(j);
         let list = self.numbers;
-        let count = records::batch(setup.n, setup.t) as u16;
+        let count = parameters::batch(setup.n, setup.t) as u16;
         let numbers = load_numbers(list, before as u16 * STRIDE as u16, bytes, count);
         let answers = self.count + 1;
         Responses {
@@ -108,7 +108,7 @@ impl Responses {
         let a = setup.a;
         let basis = arrays::member_points(setup.n, self.responders).basis();
         let mut signatures = list;
-        let count = a as u16 * records::batch(setup.n, setup.t) as u16;
+        let count = a as u16 * parameters::batch(setup.n, setup.t) as u16;
         for x in 0..count {
             let u = (x / a as u16 + 1) as u8;
             let k = (x % a as u16 + 1) as u8;

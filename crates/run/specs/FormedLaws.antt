@@ -9,11 +9,11 @@ use borrow.Author.Tests.{eqb-false}
 use Rattle.lists.specs.Tests.{pick}
 use Rattle.lists.specs.TestLaws.{pick-case}
 use Rattle.sets.specs.Masks.{has, count}
-use Rattle.records.specs.Parameters.{mostParties, quorum}
+use Rattle.parameters.specs.Definitions.{mostParties, quorum}
 use Rattle.records.specs.Bytes.{byteAt}
 use Rattle.records.specs.Tags.{Tag, SU, DE, VE, CH, CS, RE, unknown, tagOf}
 use Rattle.refusals.specs.Refusals.{setupRefusal, challengesRefusal, shiftedRefusal}
-use Rattle.records.specs.RecordLaws.{Bounds, quorum-pos}
+use Rattle.parameters.specs.ParameterLaws.{Bounds, quorum-pos}
 use Rattle.refusals.specs.RefusalLaws.{setup-passed}
 use Rattle.run.specs.declared.Run.{Run}
 use Rattle.run.specs.declared.Reply.{Reply}

@@ -7,7 +7,7 @@ use mathlib.Core.Path.{_≡_, refl, sym, ap, _∙_}
 use mathlib.Core.Bool.{Bool, true, false, and-eq-true-iff}
 use Prim.Native.Nat.{ℕ, _≤_, _<_}
 use Rattle.lists.specs.Tests.{pick}
-use Rattle.records.specs.RecordLaws.{Bounds, bounds-of, bounds-test}
+use Rattle.parameters.specs.ParameterLaws.{Bounds, bounds-of, bounds-test}
 use Rattle.run.specs.declared.Run.{Run}
 use Rattle.run.specs.Runs.{wellFormed, stageOf}
 

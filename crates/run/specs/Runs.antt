@@ -8,7 +8,7 @@ use Rattle.lists.specs.Tests.{pick}
 use Rattle.lists.specs.Stores.{filled}
 use Rattle.field.specs.declared.Scalar.{Scalar}
 use Rattle.field.specs.Definitions.{scalar}
-use Rattle.records.specs.Parameters.{cells, inBounds}
+use Rattle.parameters.specs.Definitions.{cells, inBounds}
 use Rattle.protocol.specs.Transcript.{Transcript}
 use Rattle.arrays.specs.Arrays.{cell}
 use Rattle.dealing.specs.declared.Setup.{Setup}

@@ -3,7 +3,7 @@ use Prim.Native.Nat.{ℕ, _+_, _-_}
 use mathlib.Core.List.{List, [], _∷_}
 use lib.Dec.{eqb}
 use Rattle.lists.specs.Tests.{pick}
-use Rattle.records.specs.Parameters.{quorum}
+use Rattle.parameters.specs.Definitions.{quorum}
 use Rattle.records.specs.Tags.{tagOf}
 use Rattle.refusals.specs.Refusals.{setupRefusal, challengesRefusal, shiftedRefusal}
 use Rattle.dealing.specs.Definitions.{setupOf, dealingNumber, withDealing}

@@ -2,7 +2,7 @@
 ghost use mathlib.Core.Path.{_≡_};
 ghost use mathlib.Core.Bool.{true};
 ghost use Prim.Native.Nat.{_+_};
-ghost use Rattle.records.specs.Parameters.{inBounds};
+ghost use Rattle.parameters.specs.Definitions.{inBounds};
 ghost use Rattle.refusals.specs.Refusals.{setupRefusal, challengesRefusal, shiftedRefusal};
 ghost use Rattle.dealing.specs.Definitions.{dealingNumber};
 ghost use Rattle.complaint.specs.Definitions.{complaintNumber};
@@ -15,9 +15,9 @@ use dealing::Dealings;
 use dealing::Setup;
 use field::Element;
 use field::Scalar;
-use records::CELLS;
-use records::PARTIES;
-use records::PLACES;
+use parameters::CELLS;
+use parameters::PARTIES;
+use parameters::PLACES;
 use response::Responses;
 use stages::Handler;
 
@@ -92,7 +92,7 @@ impl Run {
         if 6 < self.stage {
             return false;
         }
-        if !records::in_bounds(n, self.setup.t, self.setup.a) {
+        if !parameters::in_bounds(n, self.setup.t, self.setup.a) {
             return false;
         }
         if n < self.dealings.count {
@@ -261,7 +261,7 @@ impl Run {
         next.stage = 4;
         next.responses = responses;
         let rows = old.count as u16 + 1;
-        if rows == records::quorum(setup.t, setup.a) {
+        if rows == parameters::quorum(setup.t, setup.a) {
             return Reply {
                 run: next.finish(),
                 number: 0,

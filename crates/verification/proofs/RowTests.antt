@@ -14,9 +14,9 @@ use Rattle.rows.specs.declared.Row.{Row}
 use Rattle.interpolation.specs.Definitions.{party, slot, committedPoint}
 use Rattle.rows.specs.Definitions.{listed, weightsOf, sumOf, productOf}
 use Rattle.rows.specs.TurnLaws.{first, first-weights}
-use Rattle.records.specs.Parameters.{quorum, batch}
+use Rattle.parameters.specs.Definitions.{quorum, batch}
 use Rattle.records.specs.Bytes.{word, sender}
-use Rattle.records.specs.RecordLaws.{Bounds, key-max}
+use Rattle.parameters.specs.ParameterLaws.{Bounds, key-max}
 use Rattle.protocol.specs.Transcript.{keyAt, challengeAt, responseAt, passes}
 use Rattle.arrays.specs.Arrays.{commitmentIn, challengeIn, elements, scalars}
 use Rattle.combination.specs.Combination.{combinedValue}

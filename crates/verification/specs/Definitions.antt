@@ -5,7 +5,7 @@ use mathlib.Core.List.{List}
 use Rattle.lists.specs.Tests.{allTo}
 use Rattle.sets.specs.Masks.{has}
 use Rattle.field.specs.Definitions.{scalar}
-use Rattle.records.specs.Parameters.{batch}
+use Rattle.parameters.specs.Definitions.{batch}
 use Rattle.records.specs.Bytes.{word, sender}
 use Rattle.protocol.specs.Transcript.{Transcript, passes}
 use Rattle.arrays.specs.Arrays.{commitmentIn, challengeIn}

@@ -8,8 +8,8 @@ use Rattle.field.specs.declared.Scalar.{Scalar}
 use Rattle.interpolation.specs.Definitions.{committedPoint}
 use Rattle.rows.specs.Definitions.{listed, weightsOf, productOf}
 use Rattle.interpolation.specs.WeightLaws.{elementAt-cong}
-use Rattle.records.specs.Parameters.{quorum}
-use Rattle.records.specs.RecordLaws.{Bounds, quorum-max}
+use Rattle.parameters.specs.Definitions.{quorum}
+use Rattle.parameters.specs.ParameterLaws.{Bounds, quorum-max}
 use Rattle.protocol.specs.Transcript.{combinedAt}
 use Rattle.arrays.specs.Arrays.{commitmentIn, elements}
 use Rattle.combination.specs.Combination.{combinedValue}

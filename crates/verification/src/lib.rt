@@ -1,7 +1,7 @@
 // Response numbers against what is kept: the test of a row, and C_u(x).
 ghost use mathlib.Core.Path.{_≡_};
 ghost use mathlib.Core.Bool.{true};
-ghost use Rattle.records.specs.Parameters.{inBounds};
+ghost use Rattle.parameters.specs.Definitions.{inBounds};
 ghost use Rattle.protocol.specs.Transcript.{combinedAt};
 ghost use Rattle.challenge.specs.declared.Challenges.{Challenges};
 ghost use Rattle.verification.specs.Definitions.{transcript, rowPasses};
@@ -25,14 +25,14 @@ pub fn row_passes(
 {
     let numbers = challenges.numbers;
     let qual = complaints.unblamed(setup.n, dealings.dealers);
-    let quorum = records::quorum(setup.t, setup.a) as u8;
+    let quorum = parameters::quorum(setup.t, setup.a) as u8;
     let x = points::point(records::byte(bytes, 2), 0);
     let key = setup.key_at(x);
     let at_slots = points::slot_points(setup.a).weights(x);
     let at_points = points::committed_points(setup.a, quorum).weights(x);
     let mut powers = dealings.commitments;
     let mut passed = true;
-    'row: for u in 0..records::batch(setup.n, setup.t) {
+    'row: for u in 0..parameters::batch(setup.n, setup.t) {
         let values = combination::combined_values(powers, qual, setup.n, quorum);
         let mut image = Element::ONE;
         for v in 0..quorum {
@@ -66,7 +66,7 @@ pub fn combined_at(
 {
     let n = setup.n;
     let list = dealings.commitments;
-    let quorum = records::quorum(setup.t, setup.a) as u8;
+    let quorum = parameters::quorum(setup.t, setup.a) as u8;
     let powers = combination::powers_at(list, n, u);
     let qual = complaints.unblamed(n, dealings.dealers);
     let values = combination::combined_values(powers, qual, n, quorum);

@@ -12,7 +12,7 @@ use Rattle.sets.specs.MaskLaws.{maskOf-lt, has-maskOf}
 use Rattle.field.specs.Definitions.{scalar, generator, IsScalar, raise}
 use Rattle.field.specs.ScalarLaws.{scalar-word, plus-range}
 use Rattle.interpolation.specs.Definitions.{party}
-use Rattle.records.specs.Parameters.{batch}
+use Rattle.parameters.specs.Definitions.{batch}
 use Rattle.records.specs.Bytes.{byteAt, numberAt, word}
 use Rattle.records.specs.Tags.{letterD, letterE, letterR, letterS, letterU, letterV, tagOf, complaintLength, responseLength}
 use Rattle.refusals.specs.RefusalLaws.{complaint-passes, response-passes}

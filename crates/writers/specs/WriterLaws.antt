@@ -13,7 +13,7 @@ use Rattle.lists.specs.TestLaws.{passed}
 use Rattle.sets.specs.Masks.{has, maskOf}
 use Rattle.sets.specs.MaskLaws.{has-minus, maskOf-lt}
 use Rattle.records.specs.Tags.{complaintLength, responseLength}
-use Rattle.records.specs.RecordLaws.{party-of}
+use Rattle.parameters.specs.ParameterLaws.{party-of}
 use Rattle.dealing.specs.Definitions.{mayBlame}
 use Rattle.complaint.specs.Definitions.{blamedBy, unblamed}
 use Rattle.verification.specs.Definitions.{transcript}

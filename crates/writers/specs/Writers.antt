@@ -11,7 +11,7 @@ use Rattle.sets.specs.Masks.{has, maskOf}
 use Rattle.field.specs.declared.Scalar.{Scalar}
 use Rattle.field.specs.Definitions.{scalar, isScalar, plus, times}
 use Rattle.interpolation.specs.Definitions.{party}
-use Rattle.records.specs.Parameters.{batch, isParty}
+use Rattle.parameters.specs.Definitions.{batch, isParty}
 use Rattle.records.specs.Tags.{letterE, letterR, letterV, complaintLength, responseLength}
 use Rattle.encoding.specs.Bytes.{four, fours}
 use Rattle.protocol.specs.Transcript.{Transcript, validShare, coefficient, challengeAt}

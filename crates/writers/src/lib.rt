@@ -8,7 +8,7 @@ ghost use lib.Seq.{sets};
 ghost use Rattle.lists.specs.Tests.{pick, allTo};
 ghost use Rattle.sets.specs.Masks.{has, maskOf};
 ghost use Rattle.field.specs.Definitions.{isScalar};
-ghost use Rattle.records.specs.Parameters.{mostParties, batch};
+ghost use Rattle.parameters.specs.Definitions.{mostParties, batch};
 ghost use Rattle.encoding.specs.Bytes.{fours};
 ghost use Rattle.run.specs.Runs.{wellFormed};
 ghost use Rattle.dealing.specs.Definitions.{mayBlame};
@@ -44,7 +44,7 @@ fn complaint_refused(run: Run, j: u8, room: usize) -> u8
     if run.stage_of() != 2 {
         return 11;
     }
-    if !records::is_party(run.setup.n, j) {
+    if !parameters::is_party(run.setup.n, j) {
         return 5;
     }
     if room != records::complaint_length(run.setup.n) {
@@ -121,7 +121,7 @@ fn response_refused(run: Run, j: u8, key: u32, shares: &[u32], room: usize) -> u
     if run.stage_of() != 4 {
         return 11;
     }
-    if !records::is_party(run.setup.n, j) {
+    if !parameters::is_party(run.setup.n, j) {
         return 5;
     }
     if !sets::has(run.complaints.holders, j) {
@@ -152,7 +152,7 @@ fn put_responses(out: &mut [u8], run: Run, j: u8, key: u32, shares: &[u32])
 {
     let n = run.setup.n;
     let a = run.setup.a;
-    let count = records::batch(n, run.setup.t);
+    let count = parameters::batch(n, run.setup.t);
     let qual = answers::unblamed(run);
     let challenges = run.challenges.numbers;
     let weights = points::slot_points(a).weights(points::point(j, 0));

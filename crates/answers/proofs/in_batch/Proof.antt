@@ -3,7 +3,7 @@ use native.Mathlib.Omega.{arith}
 use borrow.Author.Tests.{le-leb, lt-leb}
 use Prim.Native.Nat.{_≤_, _<_}
 use mathlib.Core.Path.{refl}
-use Rattle.records.specs.Parameters.{batch}
+use Rattle.parameters.specs.Definitions.{batch}
 use Rattle.answers.specs.Answers.{inBatch}
 use borrow.Author.Needs.{needs}
 use Rattle.answers.proofs.in_batch.Statement.{statement}

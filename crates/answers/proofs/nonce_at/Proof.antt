@@ -5,7 +5,7 @@ use Rattle.lists.specs.CallLaws.{holds, fails}
 use Prim.Native.Nat.{_≤_, _<_}
 use mathlib.Core.Path.{_≡_, refl, sym, ap, ap₂, _∙_}
 use Rattle.interpolation.specs.PointLaws.{slot-is}
-use Rattle.records.specs.RecordLaws.{bounds-test}
+use Rattle.parameters.specs.ParameterLaws.{bounds-test}
 use Rattle.field.specs.Definitions.{product}
 use Rattle.protocol.specs.Transcript.{nonce, shiftedElement, shiftedNonce, combinedAt}
 use Rattle.answers.specs.declared.Nonce.the-variants as N

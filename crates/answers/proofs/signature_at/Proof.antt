@@ -9,8 +9,8 @@ use mathlib.Core.Bool.{true, false, and-eq-true-iff}
 use lib.Arith.{digits-lt}
 use lib.Dec.{eqb}
 use Rattle.lists.specs.CallLaws.{holds, fails, is-not}
-use Rattle.records.specs.Parameters.{batch}
-use Rattle.records.specs.RecordLaws.{cells-max}
+use Rattle.parameters.specs.Definitions.{batch}
+use Rattle.parameters.specs.ParameterLaws.{cells-max}
 use Rattle.arrays.specs.Arrays.{cell}
 use Rattle.run.specs.declared.Run.{Run}
 use Rattle.run.specs.Runs.{stageOf, kept}

@@ -6,7 +6,7 @@ use borrow.Author.Needs.{needs}
 use lib.ListN.{length}
 use Rattle.interpolation.specs.PointLaws.{slot-is}
 use Rattle.rows.specs.BasisLaws.{weights-by}
-use Rattle.records.specs.RecordLaws.{Bounds, quorum-max}
+use Rattle.parameters.specs.ParameterLaws.{Bounds, quorum-max}
 use Rattle.text.specs.Texts.{Wrote}
 use Rattle.text.specs.TextLaws.{wrote-none, wrote-length, wrote-append}
 use Rattle.protocol.specs.Transcript.{nonce, shiftedNonce}

@@ -5,8 +5,8 @@ use native.Mathlib.Nat.{zero-mul, mul-le-mul, mul-comm, le-refl}
 use native.Mathlib.Omega.{arith}
 use borrow.Author.Needs.{needs}
 use lib.ListN.{length}
-use Rattle.records.specs.Parameters.{batch}
-use Rattle.records.specs.RecordLaws.{Bounds, batch-max, cells-max}
+use Rattle.parameters.specs.Definitions.{batch}
+use Rattle.parameters.specs.ParameterLaws.{Bounds, batch-max, cells-max}
 use Rattle.text.specs.Texts.{Wrote}
 use Rattle.text.specs.TextLaws.{wrote-none, wrote-length, wrote-append}
 use Rattle.combination.specs.Combination.{powersAt}

@@ -11,8 +11,8 @@ use Rattle.rows.specs.declared.Row.{Row}
 use Rattle.interpolation.specs.Definitions.{point, party, committedPoint}
 use Rattle.interpolation.specs.PointLaws.{party-is}
 use Rattle.rows.specs.Definitions.{listed, weightsOf, sumOf}
-use Rattle.records.specs.Parameters.{quorum}
-use Rattle.records.specs.RecordLaws.{bounds-of, quorum-max}
+use Rattle.parameters.specs.Definitions.{quorum}
+use Rattle.parameters.specs.ParameterLaws.{bounds-of, quorum-max}
 use Rattle.encoding.specs.StoreLaws.{Put, put-none, put-next}
 use Rattle.arrays.specs.Arrays.{scalars}
 use Rattle.arrays.specs.ArrayLaws.{scalars-interpolated}

@@ -7,9 +7,9 @@ use borrow.Author.Needs.{needs}
 use borrow.Author.Tests.{ne-eqb}
 use lib.ListN.{length, getD, length-set, length-append}
 use lib.Seq.{sets}
-use Rattle.records.specs.Parameters.{quorum}
+use Rattle.parameters.specs.Definitions.{quorum}
 use Rattle.records.specs.Tags.{letterD, letterE, dealingLength}
-use Rattle.records.specs.RecordLaws.{bounds-test}
+use Rattle.parameters.specs.ParameterLaws.{bounds-test}
 use Rattle.encoding.specs.Bytes.{fours, powerOfFour}
 use Rattle.encoding.specs.ByteLaws.{length-fours}
 use Rattle.encoding.specs.StoreLaws.{sets-parts}

@@ -5,7 +5,7 @@ use mathlib.Core.Logic.{⊎-elim}
 use mathlib.Core.Path.{ap}
 use Prim.Native.Nat.{_-_}
 use Rattle.field.specs.Definitions.{element}
-use Rattle.records.specs.Parameters.{places}
+use Rattle.parameters.specs.Definitions.{places}
 use Rattle.records.specs.Bytes.{word}
 use Rattle.lists.specs.LoadLaws.{Loading, loading-none, loading-in, loading-past, loading-end}
 use Rattle.dealing.proofs.load_commitments.Statement.{statement}

@@ -7,7 +7,7 @@ use Prim.Native.Nat.{_-_}
 use Rattle.lists.specs.Stores.{filled}
 use Rattle.lists.specs.StoreLaws.{length-filled}
 use Rattle.field.specs.Definitions.{element, identity}
-use Rattle.records.specs.Parameters.{mostParties}
+use Rattle.parameters.specs.Definitions.{mostParties}
 use Rattle.records.specs.Bytes.{word}
 use Rattle.lists.specs.LoadLaws.{Loading, loading-none, loading-in, loading-past, loading-end}
 use Rattle.dealing.proofs.load_key.Statement.{statement}

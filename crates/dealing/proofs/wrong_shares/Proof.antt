@@ -7,7 +7,7 @@ use Prim.Native.Nat.{ℕ, _+_, _-_, _≤_}
 use Rattle.sets.specs.Masks.{maskOf, insert}
 use Rattle.rows.specs.Definitions.{weightsBy}
 use Rattle.interpolation.specs.PointLaws.{party-is}
-use Rattle.records.specs.RecordLaws.{bounds-of, quorum-max}
+use Rattle.parameters.specs.ParameterLaws.{bounds-of, quorum-max}
 use Rattle.dealing.proofs.Shares.{unfit, share-next, wrong-shares}
 use Rattle.dealing.proofs.wrong_shares.Statement.{statement}
 use Rattle.dealing.proofs.wrong_shares.Tie as tie

@@ -1,7 +1,7 @@
 -- `shares_from` meets its contract. Assumes nothing.
 use borrow.Author.Needs.{needs}
 use native.Mathlib.Omega.{arith}
-use Rattle.records.specs.Parameters.{quorum}
+use Rattle.parameters.specs.Definitions.{quorum}
 use Rattle.records.specs.Tags.{sharesFrom}
 use Rattle.records.proofs.shares_from.Statement.{statement}
 use Rattle.records.proofs.shares_from.Tie as tie

@@ -2,7 +2,7 @@
 use borrow.Author.Needs.{needs}
 use native.Mathlib.Omega.{arith}
 use Prim.Native.Nat.{_<_}
-use Rattle.records.specs.Parameters.{batch}
+use Rattle.parameters.specs.Definitions.{batch}
 use Rattle.records.specs.Tags.{challengesLength, shiftedLength}
 use Rattle.records.specs.RecordLaws.{byte-product}
 use Rattle.records.proofs.shifted_length.Statement.{statement}

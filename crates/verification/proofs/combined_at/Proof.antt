@@ -6,7 +6,7 @@ use Rattle.sets.specs.Masks.{has}
 use Rattle.rows.specs.declared.Row.{Row}
 use Rattle.interpolation.specs.Definitions.{committedPoint}
 use Rattle.rows.specs.Definitions.{listed, weightsOf, productOf}
-use Rattle.records.specs.RecordLaws.{bounds-of, quorum-max}
+use Rattle.parameters.specs.ParameterLaws.{bounds-of, quorum-max}
 use Rattle.arrays.specs.Arrays.{commitmentIn, elements}
 use Rattle.combination.specs.Combination.{combinedValue}
 use Rattle.combination.specs.PowerLaws.{combined-powers}

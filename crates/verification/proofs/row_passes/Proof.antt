@@ -13,9 +13,9 @@ use Rattle.field.specs.Definitions.{scalar, generator, product, raise, sameElem
 use Rattle.interpolation.specs.PointLaws.{party-is}
 use Rattle.rows.specs.Definitions.{sumOf, productOf}
 use Rattle.rows.specs.TurnLaws.{first, product-none, product-next}
-use Rattle.records.specs.Parameters.{batch}
+use Rattle.parameters.specs.Definitions.{batch}
 use Rattle.records.specs.Bytes.{word, sender}
-use Rattle.records.specs.RecordLaws.{bounds-of, quorum-max, batch-max}
+use Rattle.parameters.specs.ParameterLaws.{bounds-of, quorum-max, batch-max}
 use Rattle.protocol.specs.Transcript.{passes}
 use Rattle.combination.specs.Combination.{powersAt}
 use Rattle.arrays.specs.ArrayLaws.{elements-length}

@@ -14,7 +14,7 @@ use Rattle.rows.specs.declared.Row.{Row}
 use Rattle.interpolation.specs.Definitions.{point, party, slot}
 use Rattle.interpolation.specs.PointLaws.{party-is}
 use Rattle.rows.specs.Definitions.{listed, weightsOf, sumOf}
-use Rattle.records.specs.Parameters.{batch}
+use Rattle.parameters.specs.Definitions.{batch}
 use Rattle.encoding.specs.Bytes.{fours}
 use Rattle.encoding.specs.StoreLaws.{Put, put-none, put-next}
 use Rattle.protocol.specs.Transcript.{challengeAt}

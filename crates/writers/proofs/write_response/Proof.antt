@@ -6,7 +6,7 @@ use native.Mathlib.Omega.{arith}
 use borrow.Author.Needs.{needs}
 use borrow.Author.Tests.{ne-eqb}
 use lib.ListN.{length, length-set}
-use Rattle.records.specs.Parameters.{batch}
+use Rattle.parameters.specs.Definitions.{batch}
 use Rattle.records.specs.Tags.{letterE, letterR, responseLength}
 use Rattle.encoding.specs.Bytes.{fours}
 use Rattle.encoding.specs.ByteLaws.{length-fours}

@@ -8,9 +8,9 @@ use lib.ListN.{set}
 use Rattle.lists.specs.Stores.{stored}
 use Rattle.sets.specs.Masks.{insert}
 use Rattle.field.specs.Definitions.{element}
-use Rattle.records.specs.Parameters.{quorum}
+use Rattle.parameters.specs.Definitions.{quorum}
 use Rattle.records.specs.Bytes.{word, sender}
-use Rattle.records.specs.RecordLaws.{bounds-of}
+use Rattle.parameters.specs.ParameterLaws.{bounds-of}
 use Rattle.arrays.specs.Arrays.{base}
 use Rattle.dealing.specs.Definitions.{withDealing, wrongShares}
 use Rattle.dealing.proofs.Dealings.with.Statement.{statement}

@@ -5,7 +5,7 @@ use mathlib.Core.Path.{_∙_}
 use Prim.Native.Nat.{_+_, _-_}
 use lib.ListN.{getD}
 use Rattle.field.specs.Definitions.{identity}
-use Rattle.records.specs.RecordLaws.{bounds-of, key-max}
+use Rattle.parameters.specs.ParameterLaws.{bounds-of, key-max}
 use Rattle.arrays.specs.ArrayLaws.{values-interpolated}
 use Rattle.dealing.specs.Definitions.{keyIn}
 use Rattle.protocol.specs.Transcript.{keyAt}

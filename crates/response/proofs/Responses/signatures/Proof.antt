@@ -8,8 +8,8 @@ use Rattle.lists.specs.Stores.{stored}
 use Rattle.field.specs.declared.Scalar.{Scalar}
 use Rattle.field.specs.Definitions.{plus}
 use Rattle.rows.specs.Definitions.{basisOf}
-use Rattle.records.specs.Parameters.{batch}
-use Rattle.records.specs.RecordLaws.{bounds-of, key-max, batch-max, cells-max}
+use Rattle.parameters.specs.Definitions.{batch}
+use Rattle.parameters.specs.ParameterLaws.{bounds-of, key-max, batch-max, cells-max}
 use Rattle.arrays.specs.Arrays.{memberPoints}
 use Rattle.dealing.specs.declared.Setup.{Setup}
 use Rattle.response.specs.declared.Responses.{Responses}

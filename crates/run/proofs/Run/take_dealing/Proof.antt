@@ -8,7 +8,7 @@ use Prim.Native.Nat.{_+_, _-_}
 use lib.Dec.{eqb}
 use Rattle.lists.specs.Tests.{pick}
 use Rattle.lists.specs.TestLaws.{or-next}
-use Rattle.records.specs.RecordLaws.{bounds-test}
+use Rattle.parameters.specs.ParameterLaws.{bounds-test}
 use Rattle.refusals.specs.RefusalLaws.{dealing-passed}
 use Rattle.dealing.specs.declared.Dealings.{Dealings}
 use Rattle.dealing.specs.Definitions.{dealingNumber, withDealing}

@@ -7,8 +7,8 @@ use mathlib.Core.Bool.{Bool, true, false}
 use Prim.Native.Nat.{_+_}
 use lib.Dec.{eqb}
 use Rattle.lists.specs.Tests.{pick}
-use Rattle.records.specs.Parameters.{quorum}
-use Rattle.records.specs.RecordLaws.{bounds-test}
+use Rattle.parameters.specs.Definitions.{quorum}
+use Rattle.parameters.specs.ParameterLaws.{bounds-test}
 use Rattle.response.specs.declared.Responses.{Responses}
 use Rattle.run.specs.Runs.{setResponses}
 use Rattle.run.specs.Steps.{withRow, finished, afterResponse}

@@ -4,9 +4,9 @@ use borrow.Author.Tests.{le-leb, lt-leb}
 use mathlib.Core.Path.{_≡_}
 use mathlib.Core.Bool.{false}
 use lib.Dec.{leb}
-use Rattle.records.specs.Parameters.{inBounds}
-use Rattle.records.proofs.in_bounds.Statement.{statement}
-use Rattle.records.proofs.in_bounds.Tie as tie
+use Rattle.parameters.specs.Definitions.{inBounds}
+use Rattle.parameters.proofs.in_bounds.Statement.{statement}
+use Rattle.parameters.proofs.in_bounds.Tie as tie
 
 returns : tie.Need-returns
 unfolding inBounds

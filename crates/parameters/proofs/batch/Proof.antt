@@ -1,9 +1,9 @@
 -- `batch` meets its contract. Assumes nothing.
 use borrow.Author.Needs.{needs}
 use native.Mathlib.Omega.{arith}
-use Rattle.records.specs.Parameters.{batch}
-use Rattle.records.proofs.batch.Statement.{statement}
-use Rattle.records.proofs.batch.Tie as tie
+use Rattle.parameters.specs.Definitions.{batch}
+use Rattle.parameters.proofs.batch.Statement.{statement}
+use Rattle.parameters.proofs.batch.Tie as tie
 
 mul-twice : tie.Need-mul-twice
 mul-twice c = search needs

@@ -1,9 +1,9 @@
 -- `quorum` meets its contract. Assumes nothing.
 use borrow.Author.Needs.{needs}
 use native.Mathlib.Omega.{arith}
-use Rattle.records.specs.Parameters.{quorum}
-use Rattle.records.proofs.quorum.Statement.{statement}
-use Rattle.records.proofs.quorum.Tie as tie
+use Rattle.parameters.specs.Definitions.{quorum}
+use Rattle.parameters.proofs.quorum.Statement.{statement}
+use Rattle.parameters.proofs.quorum.Tie as tie
 
 mul-sum : tie.Need-mul-sum
 mul-sum c = search needs

@@ -1,7 +1,7 @@
 -- `is_party` meets its contract. Assumes nothing.
 use borrow.Author.Tests.{le-leb, lt-leb}
-use Rattle.records.proofs.is_party.Statement.{statement}
-use Rattle.records.proofs.is_party.Tie as tie
+use Rattle.parameters.proofs.is_party.Statement.{statement}
+use Rattle.parameters.proofs.is_party.Tie as tie
 
 returns : tie.Need-returns
 returns c = rw (lt-leb 1 _ (c .if1 .taken))
