@@ -191,40 +191,40 @@ impl Run {
         next.answer(0)
     }
 
-    // What a CH or CS gets that was found to be refused or not: at stage 4 with its challenges, or as it was.
-    fn challenged(self, challenges: Challenges, found: u8) -> Reply
-        ensures { λ r. ⌜ r ≡ answered self found (setChallenges self 4 challenges) ⌝ }
+    // At stage 4, with the challenges of a CH or CS.
+    fn challenged(self, challenges: Challenges) -> Run
+        ensures { λ r. ⌜ r ≡ setChallenges self 4 challenges ⌝ }
     {
         let mut next = self;
         next.stage = 4;
         next.challenges = challenges;
-        if found != 0 {
-            return self.answer(found);
-        }
-        Reply {
-            run: next,
-            number: 0,
-        }
+        next
     }
 
     fn take_challenges(self, bytes: &[u8]) -> Reply
         ensures { λ r. ⌜ r ≡ answered self (challengesRefusal (self .setup .n) (self .setup .t) (self .setup .a) (now (bytes .entry))) (afterChallenges self (now (bytes .entry))) ⌝ }
     {
         let setup = self.setup;
-        let old = self.challenges;
         let number = refusals::challenges_refusal(setup.n, setup.t, setup.a, bytes);
+        if number != 0 {
+            return self.answer(number);
+        }
+        let old = self.challenges;
         let challenges = old.with(setup, bytes);
-        self.challenged(challenges, number)
+        self.challenged(challenges).answer(0)
     }
 
     fn take_shifted(self, bytes: &[u8]) -> Reply
         ensures { λ r. ⌜ r ≡ answered self (shiftedRefusal (self .setup .n) (self .setup .t) (self .setup .a) (now (bytes .entry))) (afterShifted self (now (bytes .entry))) ⌝ }
     {
         let setup = self.setup;
+        let found = refusals::shifted_refusal(setup.n, setup.t, setup.a, bytes);
+        if found != 0 {
+            return self.answer(found);
+        }
         let old = self.challenges;
-        let number = refusals::shifted_refusal(setup.n, setup.t, setup.a, bytes);
         let shifted = old.with_shifted(setup, bytes);
-        self.challenged(shifted, number)
+        self.challenged(shifted).answer(0)
     }
 
     // Done: every φ is worked out, and shifted.
