@@ -1,6 +1,6 @@
--- The worked log of document 01 and its cases A to L, and those of the shift of document 02, one list with the expected answers, and one fact over it.
+-- The worked log of document 01 and its cases A to L, and those of document 02 (the shift, 64 parties), one list with the expected answers, and one fact over it.
 -- Assumes nothing.
-use Prim.Native.Nat.{ℕ, _+_, _/_, _%_}
+use Prim.Native.Nat.{ℕ, zero, suc, _+_, _/_, _%_}
 use mathlib.Core.Path.{_≡_, refl}
 use mathlib.Core.Bool.{Bool}
 use mathlib.Core.List.{List, [], _∷_, _++_, map, flatten}
@@ -35,6 +35,10 @@ dealing i l = letterD ∷ letterE ∷ i ∷ 0 ∷ fours l
 complaint : ℕ → ℕ → List ℕ
 complaint j m = letterV ∷ letterE ∷ j ∷ 0 ∷ four m
 
+-- with a mask of eight bytes, as two words
+wide : ℕ → ℕ → ℕ → List ℕ
+wide j high low = letterV ∷ letterE ∷ j ∷ 0 ∷ (four high ++ four low)
+
 challenges : List ℕ → List ℕ
 challenges l = letterC ∷ letterH ∷ 0 ∷ 0 ∷ fours l
 
@@ -68,6 +72,19 @@ signedBy s = held 1 4 0 ++ (s ∷ response 2 (10 ∷ 22 ∷ []) ∷ response 3 (
 
 worked : List (List ℕ)
 worked = signedBy (challenges (1 ∷ 2 ∷ []))
+
+noughts : ℕ → List ℕ
+noughts zero = []
+noughts (suc m) = 0 ∷ noughts m
+
+-- dealings of 0 for 33 parties, from m dealers i and on
+dealtFrom : ℕ → ℕ → List (List ℕ)
+dealtFrom i zero = []
+dealtFrom i (suc m) = dealing i (1 ∷ 1 ∷ noughts 33) ∷ dealtFrom (suc i) m
+
+-- 33 parties, up to the dealings: all but dealer 1 deal, and the share of dealer 33 for 1 is sent as 1
+dealtBy33 : List (List ℕ)
+dealtBy33 = setup 33 1 1 (4 ∷ 16 ∷ []) ∷ (dealtFrom 2 31 ++ (dealing 33 (1 ∷ 1 ∷ 1 ∷ noughts 32) ∷ []))
 
 -- ---- what is said of them
 
@@ -168,9 +185,22 @@ cases =
           ∷ answer (held 1 4 0) (shifted 5 (1 ∷ 500000003 ∷ [])) ∷ [],
       (1 ∷ []) ∷ (11 ∷ []) ∷ (11 ∷ []) ∷ (11 ∷ []) ∷ (2 ∷ []) ∷ (3 ∷ []) ∷ (6 ∷ []) ∷ (6 ∷ []) ∷ [],
     )
+    -- document 02, request 2.2: 33,1,15 and 64,1,31 accepted, 65,1,1 and 64,1,32 refused 4
+    ∷ (
+      answer [] (setup 33 1 15 (4 ∷ 16 ∷ [])) ∷ answer [] (setup 64 1 31 (4 ∷ 16 ∷ []))
+          ∷ answer [] (setup 65 1 1 (4 ∷ 16 ∷ [])) ∷ answer [] (setup 64 1 32 (4 ∷ 16 ∷ [])) ∷ [],
+      (0 ∷ []) ∷ (0 ∷ []) ∷ (4 ∷ []) ∷ (4 ∷ []) ∷ [],
+    )
+    -- at 33 parties a row of twelve bytes that blames dealer 33 is accepted, bit 33 refused 8, a blame of dealer 1, which has not dealt, 13, and a row of
+    -- eight bytes 2; at 4 parties a row of twelve bytes 2
+    ∷ (
+      answer dealtBy33 (wide 1 1 0) ∷ answer dealtBy33 (wide 1 2 0) ∷ answer dealtBy33 (wide 1 0 1) ∷ answer dealtBy33 (complaint 1 0)
+          ∷ answer (dealt 1 4) (wide 2 0 0) ∷ [],
+      (0 ∷ []) ∷ (8 ∷ []) ∷ (13 ∷ []) ∷ (2 ∷ []) ∷ (2 ∷ []) ∷ [],
+    )
     ∷ []
 
 -- every case comes out as the documents say
 computed : map (λ c. c .0) cases ≡ map (λ c. c .1) cases
-unfolding opened four fours setup dealing complaint challenges shifted response su dealt held challenged signedBy said answer test cases worked page workedPage shiftedPage
+unfolding opened four fours setup dealing complaint wide noughts dealtFrom dealtBy33 challenges shifted response su dealt held challenged signedBy said answer test cases worked page workedPage shiftedPage
 computed = refl

@@ -9,8 +9,8 @@ use Rattle.field.specs.Definitions.{q, P, powerTo, powerOf, isScalar, isElement
 use Rattle.field.specs.Definitions as F
 use Rattle.interpolation.specs.Definitions.{point, factor, weight, scalarAt, elementAt, party, slot, committedPoint}
 use Rattle.parameters.specs.Definitions.{inBounds, quorum, batch}
-use Rattle.records.specs.Bytes.{byteAt, numberAt, word}
-use Rattle.records.specs.Tags.{tagOf, setupLength, dealingLength, complaintLength, challengesLength, shiftedLength, responseLength, sharesFrom}
+use Rattle.records.specs.Bytes.{byteAt, wideAt, numberAt, word}
+use Rattle.records.specs.Tags.{tagOf, setupLength, dealingLength, maskWidth, complaintLength, challengesLength, shiftedLength, responseLength, sharesFrom, maskAt}
 use Rattle.refusals.specs.Refusals.{setupRefusal, headRefusal, dealingRefusal, maskFits, complaintRefusal, scalarsRefusal, challengesRefusal, shiftedRefusal, responseRefusal}
 use Rattle.protocol.specs.Transcript.{dealingAt, validShare, coefficient, keyAt, combinedAt, nonce, shiftedElement, shiftedNonce, challengeAt, responseAt, passes, exponent, productOver, dealerFactor}
 use Rattle.arrays.specs.Arrays.{base, cell}
@@ -38,8 +38,8 @@ unfolding flatten
     q P powerTo powerOf isScalar isElement reduced plus times inverseTo inverseOf inverse power product raise sameElement powered F.minus
     point factor weight scalarAt elementAt party slot committedPoint
     inBounds quorum batch
-    byteAt numberAt word
-    tagOf setupLength dealingLength complaintLength challengesLength shiftedLength responseLength sharesFrom
+    byteAt wideAt numberAt word
+    tagOf setupLength dealingLength maskWidth complaintLength challengesLength shiftedLength responseLength sharesFrom maskAt
     setupRefusal headRefusal dealingRefusal maskFits complaintRefusal scalarsRefusal challengesRefusal shiftedRefusal responseRefusal
     dealingAt validShare coefficient keyAt combinedAt nonce shiftedElement shiftedNonce challengeAt responseAt passes exponent productOver dealerFactor
     base cell

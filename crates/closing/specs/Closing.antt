@@ -5,7 +5,7 @@ use lib.Dec.{eqb}
 use Rattle.lists.specs.Tests.{pick}
 use Rattle.field.specs.declared.Scalar.{Scalar}
 use Rattle.field.specs.declared.Element.{Element}
-use Rattle.parameters.specs.Definitions.{cells, batch}
+use Rattle.parameters.specs.Definitions.{mostParties, cells, batch}
 use Rattle.text.specs.Lines.{line, setLine}
 use Rattle.protocol.specs.Transcript.{shiftedNonce}
 use Rattle.run.specs.declared.Run.{Run}
@@ -36,7 +36,7 @@ abbrev pub mostLines : ℕ
 mostLines = mostLine * cells
 
 abbrev pub mostClosing : ℕ
-mostClosing = 26000
+mostClosing = mostLines + 33 * mostParties + 35
 
 -- the line `sig u k R φ`
 abbrev pub sigLine : ℕ → ℕ → Element → Scalar → List ℕ

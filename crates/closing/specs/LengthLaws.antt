@@ -17,7 +17,7 @@ use Rattle.answers.specs.Answers.{setsOf}
 use Rattle.closing.specs.Closing.{holdWord, qualWord, badWord, endWord, mostLines, mostClosing, signatureLines, closing}
 use Rattle.closing.specs.SignatureLaws.{signatures-max}
 
--- at stage 5 the lines of at most 512 signatures
+-- at stage 5 the lines of all signatures
 pub signed-max : (r : Run) → length (pick (eqb (stageOf r) 5) (signatureLines r (r .setup .a * batch (r .setup .n) (r .setup .t))) []) ≤ mostLines
 signed-max r =
     let m = r .setup .a * batch (r .setup .n) (r .setup .t) in

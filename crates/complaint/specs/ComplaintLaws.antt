@@ -17,7 +17,8 @@ use Rattle.lists.specs.TestLaws.{pick-case}
 use Rattle.sets.specs.Masks.{has, insert}
 use Rattle.sets.specs.MaskLaws.{has-none, has-zero, has-or, has-insert}
 use Rattle.parameters.specs.Definitions.{mostParties}
-use Rattle.records.specs.Bytes.{numberAt, sender}
+use Rattle.records.specs.Bytes.{sender}
+use Rattle.records.specs.Tags.{maskAt}
 use Rattle.complaint.specs.declared.Complaints.{Complaints}
 use Rattle.complaint.specs.Definitions.{noComplaints, withComplaint, maskBy, blamedBy}
 
@@ -67,20 +68,20 @@ unfolding maskBy
 mask-past c j l = rw (List·getD-eq-default (c .masks) 0 {n = j - 1} (omega arith)) (pick-case (λ x. x ≡ 0) (has (c .holders) j) 0 0 (λ e. refl) (λ e. refl))
 
 -- a row of a holder that has none yet
-module _ (c : Complaints) (s : List ℕ) (size : length (c .masks) ≡ mostParties) (p : 0 < sender s) (few : sender s ≤ mostParties) where
+module _ (n : ℕ) (c : Complaints) (s : List ℕ) (size : length (c .masks) ≡ mostParties) (p : 0 < sender s) (few : sender s ≤ mostParties) where
   held-more : (j : ℕ) → has (insert (c .holders) (sender s)) j ≡ (has (c .holders) j || eqb j (sender s))
   held-more j = has-insert (c .holders) (sender s) j p (omega arith)
 
   -- its mask is kept at its sender's number
-  pub mask-own : has (c .holders) (sender s) ≡ false → maskBy (withComplaint c s) (sender s) ≡ numberAt s 4
+  pub mask-own : has (c .holders) (sender s) ≡ false → maskBy (withComplaint n c s) (sender s) ≡ maskAt n s
   unfolding maskBy withComplaint
-  mask-own new = rw (held-more (sender s), new, eq-eqb (sender s) (sender s) refl) (getD-set-same (c .masks) (sender s - 1) (numberAt s 4) 0 (omega arith))
+  mask-own new = rw (held-more (sender s), new, eq-eqb (sender s) (sender s) refl) (getD-set-same (c .masks) (sender s - 1) (maskAt n s) 0 (omega arith))
 
   -- and the others stay
-  pub mask-other : (j : ℕ) → 0 < j → j ≢ sender s → maskBy (withComplaint c s) j ≡ maskBy c j
+  pub mask-other : (j : ℕ) → 0 < j → j ≢ sender s → maskBy (withComplaint n c s) j ≡ maskBy c j
   unfolding maskBy withComplaint
   mask-other j pos ne =
-      rw (held-more j, ne-eqb j (sender s) ne, or-false (has (c .holders) j), getD-set-other (c .masks) (sender s - 1) (j - 1) (numberAt s 4) 0 (λ e. ne (omega arith)))
+      rw (held-more j, ne-eqb j (sender s) ne, or-false (has (c .holders) j), getD-set-other (c .masks) (sender s - 1) (j - 1) (maskAt n s) 0 (λ e. ne (omega arith)))
 
 -- ---- BAD
 
@@ -91,11 +92,11 @@ blamed-none n i = ap (λ (x : ℕ). has x i) (fold-keeps bitOr 0 (λ x. x ≡ 0)
 
 -- one more row blames whom its mask has
 pub blamed-more : (n : ℕ) (c : Complaints) (s : List ℕ) → length (c .masks) ≡ mostParties → n ≤ mostParties → 0 < sender s → sender s ≤ n → has (c .holders) (sender s) ≡ false
-    → (i : ℕ) → has (blamedBy n (withComplaint c s)) i ≡ (has (blamedBy n c) i || has (numberAt s 4) i)
+    → (i : ℕ) → has (blamedBy n (withComplaint n c s)) i ≡ (has (blamedBy n c) i || has (maskAt n s) i)
 unfolding blamedBy
 blamed-more n c s size few p l new i =
-    union-more (λ j. maskBy c (j + 1)) (λ j. maskBy (withComplaint c s) (j + 1)) (sender s - 1) unheld others i n (omega arith)
-    ∙ ap (λ (m : ℕ). has (blamedBy n c) i || has m i) (ap (maskBy (withComplaint c s)) back ∙ mask-own c s size p (omega arith) new)
+    union-more (λ j. maskBy c (j + 1)) (λ j. maskBy (withComplaint n c s) (j + 1)) (sender s - 1) unheld others i n (omega arith)
+    ∙ ap (λ (m : ℕ). has (blamedBy n c) i || has m i) (ap (maskBy (withComplaint n c s)) back ∙ mask-own n c s size p (omega arith) new)
   where
     back : sender s - 1 + 1 ≡ sender s
     back = omega arith
@@ -103,5 +104,5 @@ blamed-more n c s size few p l new i =
     unheld : maskBy c (sender s - 1 + 1) ≡ 0
     unheld = ap (maskBy c) back ∙ mask-unheld c (sender s) new
 
-    others : (j : ℕ) → j ≢ sender s - 1 → maskBy (withComplaint c s) (j + 1) ≡ maskBy c (j + 1)
-    others j ne = mask-other c s size p (omega arith) (j + 1) (omega arith) (λ e. ne (omega arith))
+    others : (j : ℕ) → j ≢ sender s - 1 → maskBy (withComplaint n c s) (j + 1) ≡ maskBy c (j + 1)
+    others j ne = mask-other n c s size p (omega arith) (j + 1) (omega arith) (λ e. ne (omega arith))

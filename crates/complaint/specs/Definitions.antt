@@ -10,7 +10,8 @@ use Rattle.lists.specs.Tests.{pick, allTo, require, orNext}
 use Rattle.lists.specs.Stores.{filled}
 use Rattle.sets.specs.Masks.{has, insert, minus, count}
 use Rattle.parameters.specs.Definitions.{mostParties}
-use Rattle.records.specs.Bytes.{numberAt, sender}
+use Rattle.records.specs.Bytes.{sender}
+use Rattle.records.specs.Tags.{maskAt}
 use Rattle.refusals.specs.Refusals.{complaintRefusal}
 use Rattle.dealing.specs.declared.Setup.{Setup}
 use Rattle.dealing.specs.declared.Dealings.{Dealings}
@@ -25,12 +26,12 @@ unfoldable pub complaintNumber : Setup → Dealings → Complaints → List ℕ 
 complaintNumber setup d c s =
     orNext (complaintRefusal (setup .n) s)
     (require (not (has (c .holders) (sender s))) 12
-    (require (allTo (setup .n) (λ i. not (has (numberAt s 4) (i + 1)) || mayBlame d (sender s) (i + 1))) 13 0))
+    (require (allTo (setup .n) (λ i. not (has (maskAt (setup .n) s) (i + 1)) || mayBlame d (sender s) (i + 1))) 13 0))
 
 -- the row's mask stands at its sender's number
-unfoldable pub withComplaint : Complaints → List ℕ → Complaints
-withComplaint c s =
-    record { count = c .count + 1; holders = insert (c .holders) (sender s); masks = set (c .masks) (sender s - 1) (numberAt s 4) }
+unfoldable pub withComplaint : ℕ → Complaints → List ℕ → Complaints
+withComplaint n c s =
+    record { count = c .count + 1; holders = insert (c .holders) (sender s); masks = set (c .masks) (sender s - 1) (maskAt n s) }
 
 -- ---- the sets: HOLD is the rows' senders
 

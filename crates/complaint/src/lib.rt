@@ -19,11 +19,11 @@ pub struct Complaints {
 }
 
 // Whether each dealer that a mask blames has a dealing whose share for j is not valid.
-fn blames_rightly(dealings: Dealings, n: u8, j: u8, mask: u32) -> bool
+fn blames_rightly(dealings: Dealings, n: u8, j: u8, mask: u64) -> bool
     ensures { λ r. ⌜ r ≡ allTo n (λ i. not (has mask (i + 1)) || mayBlame dealings j (i + 1)) ⌝ }
 {
     for i in 0..n {
-        if sets::has(mask as u64, i + 1) {
+        if sets::has(mask, i + 1) {
             if !dealings.may_blame(j, i + 1) {
                 return false;
             }
@@ -80,23 +80,23 @@ impl Complaints {
         if sets::has(self.holders, j) {
             return 12;
         }
-        if !blames_rightly(dealings, setup.n, j, records::number(bytes, 4)) {
+        if !blames_rightly(dealings, setup.n, j, records::mask(setup.n, bytes)) {
             return 13;
         }
         0
     }
 
-    // With one more complaint row.
-    pub fn with(self, bytes: &[u8]) -> Complaints
+    // With one more complaint row of a committee of n.
+    pub fn with(self, n: u8, bytes: &[u8]) -> Complaints
         requires { ⌜ self .count ≤ 64 ⌝ }
-        ensures { λ r. ⌜ r ≡ withComplaint self (now (bytes .entry)) ⌝ }
+        ensures { λ r. ⌜ r ≡ withComplaint n self (now (bytes .entry)) ⌝ }
     {
         let rows = self.count + 1;
         let j = records::byte(bytes, 2);
         let at = arrays::predecessor(j) as usize;
         let mut masks = self.masks;
         if at < PARTIES {
-            masks[at] = records::number(bytes, 4) as u64;
+            masks[at] = records::mask(n, bytes);
         }
         Complaints {
             count: rows,

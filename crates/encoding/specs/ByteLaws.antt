@@ -3,16 +3,21 @@
 use mathlib.Core.Path.{_≡_, refl, sym, ap, _∙_}
 use mathlib.Core.Bool.{true}
 use mathlib.Core.List.{List, [], _++_, append-nil, append-assoc}
-use Prim.Native.Nat.{ℕ, zero, suc, _+_, _*_, _/_, _%_, _^_, _<_}
+use Prim.Native.Nat.{ℕ, zero, suc, _+_, _*_, _-_, _/_, _%_, _^_, _≤_, _<_}
 use native.Mathlib.Omega.{arith}
-use native.Mathlib.Nat.{add-zero, add-assoc, div-div-eq-div-mul}
+use native.Mathlib.Nat.{add-zero, zero-add, add-assoc, div-one, div-eq-of-lt}
 use native.Mathlib.Decide.{ℕ-discrete}
+use lib.Pow.{shr-shr}
 use lib.ListN.{length, length-append}
 use lib.Seq.{getD-append-add}
 use Rattle.field.specs.Definitions.{scalar, generator, isElement, raise}
 use Rattle.field.specs.ElementLaws.{generator-element, raise-element, raise-below, below-word}
-use Rattle.records.specs.Bytes.{byteAt, numberAt, word}
-use Rattle.encoding.specs.Bytes.{four, fours, powerOfFour}
+use Rattle.records.specs.Bytes.{byteAt, wideAt, numberAt, word}
+use Rattle.encoding.specs.Bytes.{bytesOf, four, fours, powerOfFour}
+
+pub length-bytes : (w x : ℕ) → length (bytesOf w x) ≡ w
+length-bytes zero x = refl
+length-bytes (suc w) x = ap suc (length-bytes w x)
 
 pub length-fours : (m : ℕ) (f : ℕ → ℕ) → length (fours m f) ≡ 4 * m
 unfolding fours
@@ -22,30 +27,46 @@ length-fours (suc m) f = length-append (fours m f) (four (f m)) ∙ rw (length-f
 -- ---- reading back
 
 -- past a beginning
+wide-after : (w : ℕ) (head rest : List ℕ) (i : ℕ) → wideAt w (head ++ rest) (length head + i) ≡ wideAt w rest i
+unfolding wideAt byteAt
+wide-after zero head rest i = refl
+wide-after (suc w) head rest i = rw (wide-after w head rest i, add-assoc (length head) i w, getD-append-add head rest (i + w) 0)
+
 number-after : (head rest : List ℕ) (i : ℕ) → numberAt (head ++ rest) (length head + i) ≡ numberAt rest i
-unfolding numberAt byteAt
-number-after head rest i =
-    rw (
-      add-assoc (length head) i 1,
-      add-assoc (length head) i 2,
-      add-assoc (length head) i 3,
-      getD-append-add head rest i 0,
-      getD-append-add head rest (i + 1) 0,
-      getD-append-add head rest (i + 2) 0,
-      getD-append-add head rest (i + 3) 0,
-    )
+unfolding numberAt
+number-after head rest i = wide-after 4 head rest i
+
+-- byte i of w
+byte-of : (w x : ℕ) (rest : List ℕ) (i : ℕ) → i < w → byteAt (bytesOf w x ++ rest) i ≡ x / 2 ^ (8 * (w - 1 - i)) % 256
+unfolding byteAt
+byte-of zero x rest i l = absurd (omega arith)
+byte-of (suc w) x rest zero l = let e : suc w - 1 - 0 ≡ w = omega arith in rw e
+byte-of (suc w) x rest (suc i) l = let e : suc w - 1 - suc i ≡ w - 1 - i = omega arith in rw e (byte-of w x rest i (omega arith))
+
+-- the first k of w bytes, as a number
+wide-first : (w x : ℕ) (rest : List ℕ) → x < 2 ^ (8 * w) → (k : ℕ) → k ≤ w → wideAt k (bytesOf w x ++ rest) 0 ≡ x / 2 ^ (8 * (w - k))
+unfolding wideAt
+wide-first w x rest l zero m = let all : w - 0 ≡ w = omega arith in rw all (sym (div-eq-of-lt l))
+wide-first w x rest l (suc k) m =
+    let y = x / 2 ^ (8 * (w - 1 - k)) in
+    let at : 8 * (w - 1 - k) + 8 ≡ 8 * (w - k) = omega arith in
+    let high : x / 2 ^ (8 * (w - k)) ≡ y / 256 = sym (shr-shr x (8 * (w - 1 - k)) 8 ∙ ap (λ (i : ℕ). x / 2 ^ i) at) in
+    let place : w - suc k ≡ w - 1 - k = omega arith in
+    rw (wide-first w x rest l k (omega arith), high, zero-add k, byte-of w x rest k m, place) (omega arith)
+
+-- what is read of w bytes is what was written
+pub wide-at : (w : ℕ) (head : List ℕ) (x : ℕ) (rest : List ℕ) → x < 2 ^ (8 * w) → wideAt w (head ++ (bytesOf w x ++ rest)) (length head) ≡ x
+wide-at w head x rest l =
+    let all : 8 * (w - w) ≡ 0 = omega arith in
+    ap (wideAt w (head ++ (bytesOf w x ++ rest))) (sym (add-zero (length head)))
+    ∙ wide-after w head (bytesOf w x ++ rest) 0
+    ∙ wide-first w x rest l w (omega arith)
+    ∙ ap (λ (i : ℕ). x / 2 ^ i) all
+    ∙ div-one x
 
 number-four : (x : ℕ) (rest : List ℕ) → x < 2 ^ 32 → numberAt (four x ++ rest) 0 ≡ x
-unfolding numberAt byteAt
-number-four x rest l =
-    let low : x / 256 * 256 + x % 256 ≡ x = omega arith in
-    let middle : x / 65536 * 256 + x / 256 % 256 ≡ x / 256 = omega (arith, div-div-eq-div-mul x 256 256) in
-    let high : x / 16777216 * 256 + x / 65536 % 256 ≡ x / 65536 = omega (arith, div-div-eq-div-mul x 65536 256) in
-    let top : x / 16777216 % 256 ≡ x / 16777216 = omega arith in
-    rw top (sums (x / 16777216) (x / 65536) (x / 256) x (x / 65536 % 256) (x / 256 % 256) (x % 256) high middle low)
-  where
-    sums : (d c b a t s r : ℕ) → d * 256 + t ≡ c → c * 256 + s ≡ b → b * 256 + r ≡ a → d * 16777216 + t * 65536 + s * 256 + r ≡ a
-    sums d c b a t s r p q w = omega arith
+unfolding numberAt
+number-four x rest l = wide-at 4 [] x rest l
 
 number-fours : (m : ℕ) (f : ℕ → ℕ) (rest : List ℕ) (i : ℕ) → i < m → f i < 2 ^ 32 → numberAt (fours m f ++ rest) (4 * i) ≡ f i
 unfolding fours
@@ -73,7 +94,8 @@ word-last head m f i l b = ap (λ (s : List ℕ). word (head ++ s) (length head)
 
 -- the number after a beginning
 pub number-at : (head : List ℕ) (x : ℕ) (rest : List ℕ) → x < 2 ^ 32 → numberAt (head ++ (four x ++ rest)) (length head) ≡ x
-number-at head x rest l = ap (numberAt (head ++ (four x ++ rest))) (sym (add-zero (length head))) ∙ number-after head (four x ++ rest) 0 ∙ number-four x rest l
+unfolding numberAt
+number-at head x rest l = wide-at 4 head x rest l
 
 -- ---- the powers written
 

@@ -1,11 +1,16 @@
 -- Numbers as bytes, high byte first.
-use Prim.Native.Nat.{ℕ, zero, suc, _/_, _%_}
+use Prim.Native.Nat.{ℕ, zero, suc, _*_, _/_, _%_, _^_}
 use mathlib.Core.List.{List, [], _∷_, _++_}
 use Rattle.field.specs.Definitions.{scalar, generator, raise}
 
--- a number as four bytes
+-- a number as w bytes
+abbrev pub bytesOf : ℕ → ℕ → List ℕ
+bytesOf zero x = []
+bytesOf (suc w) x = (x / 2 ^ (8 * w) % 256) ∷ bytesOf w x
+
+-- as four
 abbrev pub four : ℕ → List ℕ
-four x = (x / 16777216 % 256) ∷ (x / 65536 % 256) ∷ (x / 256 % 256) ∷ (x % 256) ∷ []
+four x = bytesOf 4 x
 
 -- f 0, .., f (m - 1), four bytes each
 unfoldable pub fours : ℕ → (ℕ → ℕ) → List ℕ

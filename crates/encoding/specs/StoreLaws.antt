@@ -2,14 +2,14 @@
 -- Assumes nothing.
 use mathlib.Core.Path.{_≡_, refl, sym, ap, _∙_}
 use mathlib.Core.List.{List, _++_, append-nil}
-use Prim.Native.Nat.{ℕ, _+_, _*_}
-use native.Mathlib.Nat.{zero-add}
+use Prim.Native.Nat.{ℕ, suc, _+_, _*_, _-_, _/_, _%_, _^_, _<_}
+use native.Mathlib.Nat.{zero-add, add-zero}
 use native.Mathlib.Numerals.{add-one}
 use native.Mathlib.Omega.{arith}
-use lib.ListN.{length, drop-of-length-le}
+use lib.ListN.{length, set, drop-of-length-le}
 use lib.Seq.{sets, sets-eq, length-sets}
 use Rattle.lists.specs.StoreLaws.{sets-append}
-use Rattle.encoding.specs.Bytes.{four, fours}
+use Rattle.encoding.specs.Bytes.{bytesOf, four, fours}
 use Rattle.encoding.specs.ByteLaws.{length-fours}
 
 -- a beginning and the rest fill a buffer of their length
@@ -25,6 +25,29 @@ sets-whole out head rest e =
 pub sets-parts : (out head x y : List ℕ) → length (head ++ (x ++ y)) ≡ length out
     → sets (sets (sets out 0 head) (length head) x) (length head + length x) y ≡ head ++ (x ++ y)
 sets-parts out head x y e = sym (sets-append x y (sets out 0 head) (length head)) ∙ sets-whole out head (x ++ y) e
+
+-- ---- bytes put one by one
+
+-- none of w put yet
+pub bytes-first : (w x : ℕ) (out : List ℕ) (at : ℕ) → sets out (at + 0) (bytesOf (w - 0) x) ≡ sets out at (bytesOf w x)
+bytes-first w x out at =
+    let all : w - 0 ≡ w = omega arith in
+    rw (all, add-zero at)
+
+-- byte i of w put, and the bytes behind it still to be put
+pub bytes-next : (w x : ℕ) (out : List ℕ) (at i : ℕ) → i < w
+    → sets out (at + i) (bytesOf (w - i) x) ≡ sets (set out (at + i) (x / 2 ^ (8 * (w - 1 - i)) % 256)) (at + (i + 1)) (bytesOf (w - (i + 1)) x)
+bytes-next w x out at i l =
+    let here : w - i ≡ suc (w - 1 - i) = omega arith in
+    let rest : w - (i + 1) ≡ w - 1 - i = omega arith in
+    let next : at + (i + 1) ≡ suc (at + i) = omega arith in
+    rw (here, rest, next)
+
+-- all of them put
+pub bytes-last : (w x : ℕ) (out : List ℕ) (at i : ℕ) → i ≡ w → out ≡ sets out (at + i) (bytesOf (w - i) x)
+bytes-last w x out at i e =
+    let none : w - i ≡ 0 = omega arith in
+    rw none
 
 -- ---- numbers put one by one
 

@@ -22,7 +22,7 @@ use Rattle.log.specs.Turns.{nextLength, nextRecord, nextRest, recordsFro
 use Rattle.log.specs.TurnLaws.{next-pos, records-none, records-next, lines-start}
 use Rattle.log.specs.Printed.{mostReport}
 
--- the run after a log has at most 32 parties, and past stage 0 it is well formed
+-- the run after a log has no more parties than a committee, and past stage 0 it is well formed
 pub run-regular : (log : List ℕ) → Regular (runOf log)
 unfolding runOf after
 run-regular log = regular-after fresh regular-fresh (recordsOf log)

@@ -15,7 +15,7 @@ ghost use Rattle.log.specs.Printed.{mostReport, printed};
 use run::Run;
 
 // Room for every page.
-pub const REPORT: usize = 300000;
+pub const REPORT: usize = 400000;
 
 // The bytes of the longest log that is read.
 pub const LONGEST: usize = 65536;

@@ -1,24 +1,24 @@
 -- The parameters of a committee: n parties, threshold t, packing a (document 01, "Points and weights").
-use Prim.Native.Nat.{ℕ, _+_, _*_, _-_}
+use Prim.Native.Nat.{ℕ, _+_, _*_, _-_, _/_}
 use mathlib.Core.Bool.{Bool, _&&_}
 use lib.Dec.{leb}
 
 -- the most parties that a committee has
 abbrev pub mostParties : ℕ
-mostParties = 32
+mostParties = 64
 
 -- the places of one party's values in a flat array, and of all parties' values
 abbrev pub stride : ℕ
-stride = 32
+stride = mostParties
 
 abbrev pub places : ℕ
 places = mostParties * stride
 
--- the places of the challenges, and of the numbers φ(u,k)
+-- the places of the challenges, and of the numbers φ(u,k): a is at most half of n
 abbrev pub cells : ℕ
-cells = 512
+cells = places / 2
 
--- t and a at least 1, n at most 32, n at least 3t + 2a - 1
+-- t and a at least 1, n at most 64 (document 02, request 2.2), n at least 3t + 2a - 1
 unfoldable pub inBounds : ℕ → ℕ → ℕ → Bool
 inBounds n t a = leb 1 t && (leb 1 a && (leb n mostParties && leb (3 * t + 2 * a) (n + 1)))
 

@@ -3,7 +3,7 @@ use mathlib.Core.Path.{_≡_, refl}
 use mathlib.Core.Bool.{true, and-eq-true-iff}
 use Prim.Native.Nat.{ℕ, _+_, _*_, _-_, _≤_, _<_}
 use native.Mathlib.Omega.{arith}
-use native.Mathlib.Nat.{mul-le-mul, le-trans}
+use native.Mathlib.Nat.{mul-le-mul}
 use borrow.Author.Tests.{leb-true, le-leb}
 use Rattle.parameters.specs.Definitions.{mostParties, cells, inBounds, quorum, batch, isParty}
 
@@ -44,24 +44,25 @@ pub quorum-pos : {n t a : ℕ} → Bounds n t a → 0 < quorum t a
 unfolding quorum
 quorum-pos b = omega arith
 
-pub quorum-max : {n t a : ℕ} → Bounds n t a → quorum t a ≤ 30
+pub quorum-max : {n t a : ℕ} → Bounds n t a → quorum t a + 2 ≤ mostParties
 unfolding quorum
 quorum-max b = omega arith
 
 -- the points of the key
-pub key-max : {n t a : ℕ} → Bounds n t a → t + a ≤ 31
+pub key-max : {n t a : ℕ} → Bounds n t a → t + a < mostParties
 key-max b = omega arith
 
 pub batch-pos : {n t a : ℕ} → Bounds n t a → 0 < batch n t
 unfolding batch
 batch-pos b = omega arith
 
-pub batch-max : {n t a : ℕ} → Bounds n t a → batch n t ≤ 30
+pub batch-max : {n t a : ℕ} → Bounds n t a → batch n t + 2 ≤ mostParties
 unfolding batch
 batch-max b = omega arith
 
 -- the challenges: one for each slot and signature
 pub cells-max : {n t a : ℕ} → Bounds n t a → a * batch n t ≤ cells
 cells-max {n} {t} {a} b =
-    let l : a ≤ 15 = omega arith in
-    le-trans (mul-le-mul l (batch-max b)) (omega arith)
+    let half : 2 * a ≤ mostParties = omega arith in
+    let few : batch n t ≤ mostParties = omega (arith, batch-max b) in
+    omega (arith, mul-le-mul half few)

@@ -3,18 +3,18 @@ ghost use mathlib.Core.Path.{_≡_};
 ghost use Rattle.parameters.specs.Definitions.{inBounds, quorum, batch, isParty};
 
 // The most parties that a committee has.
-pub const MOST_PARTIES: u8 = 32;
+pub const MOST_PARTIES: u8 = 64;
 
 // As many places as parties.
 pub const PARTIES: usize = MOST_PARTIES as usize;
 
 // The places of one party's values in a flat array, and of all parties' values.
-pub const STRIDE: usize = 32;
+pub const STRIDE: usize = PARTIES;
 
 pub const PLACES: usize = PARTIES * STRIDE;
 
-// The places of the challenges, and of the numbers φ(u,k).
-pub const CELLS: usize = 512;
+// The places of the challenges, and of the numbers φ(u,k): a is at most half of n.
+pub const CELLS: usize = PLACES / 2;
 
 // Whether n parties, threshold t and packing a are within the bounds.
 pub fn in_bounds(n: u8, t: u8, a: u8) -> bool

@@ -12,7 +12,7 @@ use Rattle.field.specs.Definitions.{generator, IsScalar, product, raise, scalar
 use Rattle.field.specs.declared.Scalar.{Scalar}
 use Rattle.field.specs.declared.Element.{Element}
 use Rattle.parameters.specs.Definitions.{quorum, batch}
-use Rattle.records.specs.Bytes.{sender, numberAt, word}
+use Rattle.records.specs.Bytes.{sender, word}
 use Rattle.records.specs.Tags.{SU, DE, VE, CH, CS, RE, tagOf, sharesFrom}
 use Rattle.refusals.specs.Refusals.{complaintRefusal}
 use Rattle.text.specs.Lines.{feed, line, setText}
@@ -109,7 +109,7 @@ pub record FalseComplaint (l : List (List ℕ)) (s : List ℕ) : Type 0 where
   pub formed : complaintRefusal (read (accepted l) .n) s ≡ 0
   pub new : hold (accepted l) (sender s) ≡ false
   pub blamed : ℕ
-  pub blames : has (numberAt s 4) blamed ≡ true
+  pub blames : has (maskAt (read (accepted l) .n) s) blamed ≡ true
   pub unfounded : wronged (accepted l) (sender s) blamed ≡ false
 
 -- ---- the page

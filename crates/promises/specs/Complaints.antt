@@ -14,7 +14,7 @@ use Rattle.lists.specs.TestLaws.{one-fails, no-both}
 use Rattle.sets.specs.Masks.{has, maskOf}
 use Rattle.sets.specs.MaskLaws.{has-none, has-maskOf, has-above, has-le, maskOf-lt}
 use Rattle.field.specs.Definitions.{scalar, element}
-use Rattle.records.specs.Bytes.{numberAt, word, sender}
+use Rattle.records.specs.Bytes.{word, sender}
 use Rattle.records.specs.Tags.{Tag, SU, DE, VE, CH, CS, RE, unknown, tagOf, sharesFrom}
 use Rattle.refusals.specs.Refusals.{setupRefusal, headRefusal, dealingRefusal, complaintRefusal, scalarsRefusal, challengesRefusal, shiftedRefusal, responseRefusal}
 use Rattle.refusals.specs.RefusalLaws.{complaint-passed}
@@ -139,7 +139,7 @@ module _ (r : Run) (s : List ℕ) where
 
   -- every blamed dealer may be blamed
   abbrev blamesRightly : Bool
-  blamesRightly = allTo (r .setup .n) (λ i. not (has (numberAt s 4) (i + 1)) || mayBlame (r .dealings) (sender s) (i + 1))
+  blamesRightly = allTo (r .setup .n) (λ i. not (has (maskAt (r .setup .n) s) (i + 1)) || mayBlame (r .dealings) (sender s) (i + 1))
 
   complaint-13 : complaintNumber (r .setup) (r .dealings) (r .complaints) s ≡ 13 → (complaintRefusal (r .setup .n) s ≡ 0) × (has (r .complaints .holders) (sender s) ≡ false) × (blamesRightly ≡ false)
   unfolding complaintNumber orNext require
@@ -188,7 +188,7 @@ module _ (l : List (List ℕ)) (s : List ℕ) where
         formed = rw (← made-alike l p .n-same) (c .0);
         new = sym (made-hold l p (sender s)) ∙ c .1;
         blamed = w .0 + 1;
-        blames = x .0;
+        blames = rw (← made-alike l p .n-same) (x .0);
         unfounded = sym (wronged-is l p (sender s) (w .0 + 1) (passed .sender-pos) (passed .sender-max)) ∙ x .1;
       }
 
@@ -199,11 +199,12 @@ module _ (l : List (List ℕ)) (s : List ℕ) where
       let formed : complaintRefusal (after l .setup .n) s ≡ 0 = rw (made-alike l p .n-same) (h .formed) in
       let passed = complaint-passed _ s formed in
       let i = h .blamed in
-      let pos : 0 < i = has-pos (numberAt s 4) i (h .blames) in
+      let blames : has (maskAt (after l .setup .n) s) i ≡ true = rw (made-alike l p .n-same) (h .blames) in
+      let pos : 0 < i = has-pos (maskAt (after l .setup .n) s) i blames in
       let back : i - 1 + 1 ≡ i = omega arith in
-      let below : i ≤ after l .setup .n = has-le (numberAt s 4) (after l .setup .n) i (passed .mask) (h .blames) in
+      let below : i ≤ after l .setup .n = has-le (maskAt (after l .setup .n) s) (after l .setup .n) i (passed .mask) blames in
       let e : complaintNumber (after l .setup) (after l .dealings) (after l .complaints) s ≡ 13 = complaint-is (after l) s formed (made-hold l p (sender s) ∙ h .new)
-      (one-fails _ (i - 1) (after l .setup .n) (omega arith) (rw (back, h .blames, wronged-is l p (sender s) i (passed .sender-pos) (passed .sender-max), h .unfounded))) in
+      (one-fails _ (i - 1) (after l .setup .n) (omega arith) (rw (back, blames, wronged-is l p (sender s) i (passed .sender-pos) (passed .sender-max), h .unfounded))) in
       ap (λ (y : Reply). y .number) (step-taken VE (after l) s (h .tag) (answers l .stage ∙ h .stage)) ∙ answered-number (after l) _ (afterComplaint (after l) s) ∙ e
 
   number-13 : (k : Tag) → tagOf s ≡ k → handled (handlerAt k (stageOf (after l))) (after l) s .number ≡ 13 → FalseComplaint l s
@@ -234,9 +235,9 @@ refused-13 l s = (number-13 l s (tagOf s) refl, false-refused l s)
 
 -- At stage 2, the complaint row that the writer makes for j blames exactly the accepted dealers whose share for j is not valid.
 pub written-blames : (l : List (List ℕ)) → stageBy (accepted l) ≡ 2 → (j : ℕ) → 0 < j → j ≤ read (accepted l) .n
-    → (i : ℕ) → has (numberAt (complaintBytes (after l) j) 4) i ≡ wronged (accepted l) j i
+    → (i : ℕ) → has (maskAt (read (accepted l) .n) (complaintBytes (after l) j)) i ≡ wronged (accepted l) j i
 unfolding transcriptOf transcript
 written-blames l e j q m i =
     let p : 0 < after l .stage = omega (arith, stage-by l) in
     let k : j ≤ after l .setup .n = omega (arith, made-alike l p .n-same) in
-    ap (λ (z : ℕ). has z i) (complaint-mask (after l) j (made-well-formed l p)) ∙ mask-is l p j i ∙ wronged-is l p j i q k
+    ap (λ (z : ℕ). has z i) (ap (λ (n : ℕ). maskAt n (complaintBytes (after l) j)) (sym (made-alike l p .n-same)) ∙ complaint-mask (after l) j (made-well-formed l p)) ∙ mask-is l p j i ∙ wronged-is l p j i q k

@@ -15,7 +15,7 @@ use Rattle.sets.specs.Masks.{has, count}
 use Rattle.field.specs.Definitions.{scalar, element, IsElement, identity}
 use Rattle.protocol.specs.Transcript.{Transcript, passes}
 use Rattle.parameters.specs.Definitions.{mostParties, places, cells, quorum, batch}
-use Rattle.records.specs.Bytes.{byteAt, numberAt, word, sender}
+use Rattle.records.specs.Bytes.{byteAt, word, sender}
 use Rattle.records.specs.Tags.{Tag, SU, DE, VE, CH, CS, RE}
 use Rattle.refusals.specs.Refusals.{setupRefusal, dealingRefusal}
 use Rattle.parameters.specs.ParameterLaws.{Bounds, key-max}
@@ -56,9 +56,9 @@ pub record DealingsOf (setup : Setup) (d : Dealings) (l : List (List ℕ)) : Typ
 pub record ComplaintsOf (setup : Setup) (dealers : ℕ) (c : Complaints) (l : List (List ℕ)) : Type 0 where
   pub senders : Senders (setup .n) (c .count) (c .holders) l
   pub masks-size : length (c .masks) ≡ mostParties
-  pub masks-are : Marks (λ s. numberAt s 4) (c .masks) l
-  pub blamed-is : (i : ℕ) → has (blamedBy (setup .n) c) i ≡ some (λ s. has (numberAt s 4) i) l
-  pub founded : All (λ s. (i : ℕ) → has (numberAt s 4) i ≡ true → has dealers i ≡ true) l
+  pub masks-are : Marks (maskAt (setup .n)) (c .masks) l
+  pub blamed-is : (i : ℕ) → has (blamedBy (setup .n) c) i ≡ some (λ s. has (maskAt (setup .n) s) i) l
+  pub founded : All (λ s. (i : ℕ) → has (maskAt (setup .n) s) i ≡ true → has dealers i ≡ true) l
 
 -- l holds the accepted CH, m the accepted CS; before there is one of either every number is 0, and so is the shift
 pub record ChallengesOf (setup : Setup) (e : Challenges) (l m : List (List ℕ)) : Type 0 where

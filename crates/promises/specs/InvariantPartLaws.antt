@@ -14,7 +14,8 @@ use Rattle.sets.specs.Masks.{has, insert}
 use Rattle.sets.specs.MaskLaws.{has-insert, has-above}
 use Rattle.field.specs.Definitions.{scalar, element, identity}
 use Rattle.parameters.specs.Definitions.{mostParties, places, quorum, batch}
-use Rattle.records.specs.Bytes.{numberAt, sender}
+use Rattle.records.specs.Bytes.{sender}
+use Rattle.records.specs.Tags.{maskAt}
 use Rattle.refusals.specs.Refusals.{dealingRefusal}
 use Rattle.parameters.specs.ParameterLaws.{Bounds, quorum-max, batch-max}
 use Rattle.refusals.specs.RefusalLaws.{dealing-passed, complaint-passed, response-passed}
@@ -54,7 +55,7 @@ no-complaints setup dealers =
     record {
       senders = senders-none (setup .n);
       masks-size = length-filled {A = ℕ} mostParties 0;
-      masks-are = marks-none (λ s. numberAt s 4) (noComplaints .masks);
+      masks-are = marks-none (maskAt (setup .n)) (noComplaints .masks);
       blamed-is = blamed-none (setup .n);
       founded = tt;
     }
@@ -122,28 +123,28 @@ blames-dealers n j mask d l e i h = and-left (has (d .dealers) i) _ (go (decLt n
     go (no k) = rw (back, h) at (all-at n _ e (i - 1) (omega (arith, pos)))
 
 pub complaint-new : (r : Run) (s : List ℕ) → complaintNumber (r .setup) (r .dealings) (r .complaints) s ≡ 0
-    → New (r .setup .n) (r .complaints .holders) s × ((i : ℕ) → has (numberAt s 4) i ≡ true → has (r .dealings .dealers) i ≡ true)
+    → New (r .setup .n) (r .complaints .holders) s × ((i : ℕ) → has (maskAt (r .setup .n) s) i ≡ true → has (r .dealings .dealers) i ≡ true)
 unfolding complaintNumber
 complaint-new r s e =
     let c = or-next _ _ e in
     let p = complaint-passed _ s (c .0) in
     let p₁ = passed _ 12 _ (c .1) (omega arith) in
     let p₂ = passed _ 13 0 (p₁ .1) (omega arith) in
-    (record { sender-pos = p .sender-pos; sender-max = p .sender-max; unsent = not-yes _ (p₁ .0) }, blames-dealers (r .setup .n) (sender s) (numberAt s 4) (r .dealings) (p .mask) (p₂ .0))
+    (record { sender-pos = p .sender-pos; sender-max = p .sender-max; unsent = not-yes _ (p₁ .0) }, blames-dealers (r .setup .n) (sender s) (maskAt (r .setup .n) s) (r .dealings) (p .mask) (p₂ .0))
 
 pub complaints-more : (setup : Setup) (dealers : ℕ) (c : Complaints) (s : List ℕ) (l : List (List ℕ)) → setup .n ≤ mostParties → New (setup .n) (c .holders) s
-    → ((i : ℕ) → has (numberAt s 4) i ≡ true → has dealers i ≡ true) → ComplaintsOf setup dealers c l → ComplaintsOf setup dealers (withComplaint c s) (snoc l s)
+    → ((i : ℕ) → has (maskAt (setup .n) s) i ≡ true → has dealers i ≡ true) → ComplaintsOf setup dealers c l → ComplaintsOf setup dealers (withComplaint (setup .n) c s) (snoc l s)
 unfolding withComplaint
 complaints-more setup dealers c s l b new blames h =
     record {
       senders = senders-more s b new (h .senders);
       masks-size = length-set (c .masks) _ _ ∙ h .masks-size;
-      masks-are = marks-more s b new (h .senders) (λ x. numberAt x 4) (c .masks) (h .masks-size) (h .masks-are);
-      blamed-is = λ i. more i ∙ ap (λ (z : Bool). z || has (numberAt s 4) i) (h .blamed-is i) ∙ sym (some-snoc (λ x. has (numberAt x 4) i) l s);
+      masks-are = marks-more s b new (h .senders) (maskAt (setup .n)) (c .masks) (h .masks-size) (h .masks-are);
+      blamed-is = λ i. more i ∙ ap (λ (z : Bool). z || has (maskAt (setup .n) s) i) (h .blamed-is i) ∙ sym (some-snoc (λ x. has (maskAt (setup .n) x) i) l s);
       founded = all-snoc _ l s (h .founded) blames;
     }
   where
-    more : (i : ℕ) → has (blamedBy (setup .n) (withComplaint c s)) i ≡ (has (blamedBy (setup .n) c) i || has (numberAt s 4) i)
+    more : (i : ℕ) → has (blamedBy (setup .n) (withComplaint (setup .n) c s)) i ≡ (has (blamedBy (setup .n) c) i || has (maskAt (setup .n) s) i)
     more = blamed-more (setup .n) c s (h .masks-size) b (new .sender-pos) (new .sender-max) (new .unsent)
 
 -- ---- RE

@@ -14,7 +14,7 @@ use Rattle.lists.specs.StoreLaws.{length-stored, stored-from, length-filled, ge
 use Rattle.sets.specs.Masks.{has, count}
 use Rattle.field.specs.Definitions.{scalar}
 use Rattle.parameters.specs.Definitions.{cells, quorum, batch}
-use Rattle.records.specs.Bytes.{byteAt, numberAt, word}
+use Rattle.records.specs.Bytes.{byteAt, wideAt, numberAt, word}
 use Rattle.records.specs.Tags.{Tag, SU, DE, VE, CH, CS, RE, unknown, tagOf}
 use Rattle.refusals.specs.Refusals.{setupRefusal, challengesRefusal, shiftedRefusal}
 use Rattle.refusals.specs.RefusalLaws.{setup-passed}
@@ -86,7 +86,7 @@ quiet r f h none unshifted e = absurd (omega (arith, h .stage .challenged (omega
 -- ---- SU
 
 setup-live : (s : List ℕ) → setupRefusal s ≡ 0 → Live (afterSetup s) (more SU s (λ g. []))
-unfolding afterSetup setupOf begun noDealings noComplaints noChallenges noScalars first challengeBy shiftBy word numberAt byteAt
+unfolding afterSetup setupOf begun noDealings noComplaints noChallenges noScalars first challengeBy shiftBy word numberAt wideAt byteAt
 setup-live s e =
     let b = setup-passed s e .bounds in
     record {
@@ -168,7 +168,7 @@ complaint-live r s f g e h =
     }
   where
     c' : Complaints
-    c' = withComplaint (r .complaints) s
+    c' = withComplaint (r .setup .n) (r .complaints) s
 
     few : r .complaints .count < r .setup .n - r .setup .t
     few = h .stage .counts .complaining (omega arith)

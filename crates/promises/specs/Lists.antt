@@ -10,8 +10,8 @@ use Rattle.field.specs.declared.Scalar.{Scalar}
 use Rattle.field.specs.Definitions.{scalar, element, plus}
 use Rattle.interpolation.specs.Definitions.{party, slot, scalarAt}
 use Rattle.parameters.specs.Definitions.{quorum}
-use Rattle.records.specs.Bytes.{byteAt, numberAt, word, sender}
-use Rattle.records.specs.Tags.{Tag, SU, DE, VE, CH, CS, RE, code, tagOf}
+use Rattle.records.specs.Bytes.{byteAt, word, sender}
+use Rattle.records.specs.Tags.{Tag, SU, DE, VE, CH, CS, RE, code, tagOf, maskAt}
 use Rattle.run.specs.declared.Run.{Run}
 use Rattle.protocol.specs.Transcript.{Transcript}
 use Rattle.arrays.specs.Arrays.{cell}
@@ -62,6 +62,10 @@ shiftBy (s ∷ m) = scalar (word s 4 0)
 
 -- of a list of accepted records:
 module _ (l : List (List ℕ)) where
+  -- n of the accepted SU
+  abbrev pub parties : ℕ
+  parties = byteAt (first (ofTag SU l)) 2
+
   -- the accepted dealers
   unfoldable pub dealer : ℕ → Bool
   dealer i = sentBy i (ofTag DE l)
@@ -72,11 +76,11 @@ module _ (l : List (List ℕ)) where
 
   -- the mask of holder j: that of its accepted VE, and an empty one for a party that has none
   unfoldable pub maskFrom : ℕ → ℕ
-  maskFrom j = pick (hold j) (numberAt (recordOf j (ofTag VE l)) 4) 0
+  maskFrom j = pick (hold j) (maskAt parties (recordOf j (ofTag VE l))) 0
 
   -- BAD: the dealers whom any of them blames
   unfoldable pub bad : ℕ → Bool
-  bad i = dealer i && some (λ s. has (numberAt s 4) i) (ofTag VE l)
+  bad i = dealer i && some (λ s. has (maskAt parties s) i) (ofTag VE l)
 
   -- QUAL: the other accepted dealers
   unfoldable pub qualified : ℕ → Bool
@@ -86,7 +90,7 @@ module _ (l : List (List ℕ)) where
   unfoldable pub read : Transcript
   read =
       record {
-        n = byteAt (first (ofTag SU l)) 2;
+        n = parties;
         t = byteAt (first (ofTag SU l)) 3;
         a = byteAt (first (ofTag SU l)) 4;
         key = λ j. element (word (first (ofTag SU l)) 6 j);

@@ -1,14 +1,19 @@
 -- The numbers of a record. A byte past the end counts as 0.
-use Prim.Native.Nat.{ℕ, _+_, _*_}
+use Prim.Native.Nat.{ℕ, zero, suc, _+_, _*_}
 use mathlib.Core.List.{List}
 use lib.ListN.{getD}
 
 unfoldable pub byteAt : List ℕ → ℕ → ℕ
 byteAt s at = getD s at 0
 
--- the number of four bytes at a place, high byte first
+-- the number of w bytes at a place, high byte first
+unfoldable pub wideAt : ℕ → List ℕ → ℕ → ℕ
+wideAt zero s at = 0
+wideAt (suc w) s at = wideAt w s at * 256 + byteAt s (at + w)
+
+-- of four bytes
 unfoldable pub numberAt : List ℕ → ℕ → ℕ
-numberAt s at = byteAt s at * 16777216 + byteAt s (at + 1) * 65536 + byteAt s (at + 2) * 256 + byteAt s (at + 3)
+numberAt s at = wideAt 4 s at
 
 -- number i, counted from 0, of those that stand from a place on
 unfoldable pub word : List ℕ → ℕ → ℕ → ℕ

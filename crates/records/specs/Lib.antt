@@ -1,3 +1,4 @@
 pub mod Bytes
 pub mod Tags
 pub mod RecordLaws
+pub mod MaskLaws

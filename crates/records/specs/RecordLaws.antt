@@ -3,7 +3,11 @@ use mathlib.Core.Path.{_≡_, refl}
 use Prim.Native.Nat.{ℕ, _*_, _≤_, _<_}
 use native.Mathlib.Omega.{arith}
 use native.Mathlib.Nat.{mul-le-mul}
-use Rattle.records.specs.Tags.{Tag, SU, DE, VE, CH, CS, RE, unknown, code, decoded}
+use lib.Dec.{leb}
+use borrow.Author.Tests.{leb-true, leb-false}
+use Rattle.lists.specs.TestLaws.{pick-case}
+use Rattle.parameters.specs.Definitions.{mostParties}
+use Rattle.records.specs.Tags.{Tag, SU, DE, VE, CH, CS, RE, unknown, code, decoded, mostNarrow, maskWidth}
 
 -- ---- tags
 
@@ -17,6 +21,20 @@ decoded-code CH = refl
 decoded-code CS = refl
 decoded-code RE = refl
 decoded-code unknown = refl
+
+-- ---- the mask of a complaint row
+
+-- it has four bytes or eight
+pub width-cases : (P : ℕ → Type 0) (n : ℕ) → (n ≤ mostNarrow → P 4) → (mostNarrow < n → P 8) → P (maskWidth n)
+unfolding maskWidth
+width-cases P n narrow wide = pick-case P (leb n mostNarrow) 4 8 (λ e. narrow (leb-true _ _ e)) (λ e. wide (leb-false _ _ e))
+
+pub width-max : (n : ℕ) → maskWidth n ≤ 8
+width-max n = width-cases (λ w. w ≤ 8) n (λ l. omega arith) (λ l. omega arith)
+
+-- and so a bit for each party
+pub width-enough : {n : ℕ} → n ≤ mostParties → n ≤ 8 * maskWidth n
+width-enough {n} m = width-cases (λ w. n ≤ 8 * w) n (λ l. omega arith) (λ l. omega arith)
 
 -- ---- numbers of bytes
 

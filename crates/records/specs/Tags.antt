@@ -1,11 +1,12 @@
--- The six kinds of record and their lengths (document 01, "Records"; its word for a tag is mark. CS is of document 02, request 2.1).
+-- The six kinds of record and their lengths (document 01, "Records"; its word for a tag is mark. CS is of document 02, request 2.1, the
+-- wide mask of request 2.2).
 use Prim.Native.Nat.{ℕ, _+_, _*_}
 use mathlib.Core.List.{List}
 use lib.ListN.{length}
-use lib.Dec.{eqb, ltb}
+use lib.Dec.{eqb, ltb, leb}
 use Rattle.lists.specs.Tests.{pick}
 use Rattle.parameters.specs.Definitions.{quorum, batch}
-use Rattle.records.specs.Bytes.{byteAt}
+use Rattle.records.specs.Bytes.{byteAt, wideAt}
 
 -- VE is a complaint row (verdict, in document 01); CS has a shift before the challenges of a CH
 pub data Tag : Type 0 where
@@ -80,8 +81,16 @@ setupLength t = 4 * t + 10
 unfoldable pub dealingLength : ℕ → ℕ → ℕ → ℕ
 dealingLength n t a = 4 + 4 * quorum t a + 4 * n
 
+-- the most parties whose mask has four bytes
+abbrev pub mostNarrow : ℕ
+mostNarrow = 32
+
+-- the bytes of the mask of a complaint row: four for up to 32 parties, eight for more
+unfoldable pub maskWidth : ℕ → ℕ
+maskWidth n = pick (leb n mostNarrow) 4 8
+
 unfoldable pub complaintLength : ℕ → ℕ
-complaintLength n = 8
+complaintLength n = 4 + maskWidth n
 
 unfoldable pub challengesLength : ℕ → ℕ → ℕ → ℕ
 challengesLength n t a = 4 + 4 * (a * batch n t)
@@ -95,3 +104,7 @@ responseLength n t = 4 + 4 * batch n t
 -- where the shares of a dealing begin
 unfoldable pub sharesFrom : ℕ → ℕ → ℕ
 sharesFrom t a = 4 + 4 * quorum t a
+
+-- the mask of a complaint row of a committee of n, high byte first
+unfoldable pub maskAt : ℕ → List ℕ → ℕ
+maskAt n s = wideAt (maskWidth n) s 4

@@ -1,7 +1,7 @@
 // Records: bytes, numbers, tags and lengths.
 ghost use mathlib.Core.Path.{_≡_};
 ghost use Rattle.records.specs.Bytes.{byteAt, numberAt, word};
-ghost use Rattle.records.specs.Tags.{code, tagOf, setupLength, dealingLength, complaintLength, challengesLength, shiftedLength, responseLength, sharesFrom};
+ghost use Rattle.records.specs.Tags.{code, tagOf, setupLength, dealingLength, complaintLength, challengesLength, shiftedLength, responseLength, sharesFrom, maskWidth, maskAt};
 
 // The six tags, two letters each.
 const SU: u16 = b'S' as u16 * 256 + b'U' as u16;
@@ -15,6 +15,9 @@ const CH: u16 = b'C' as u16 * 256 + b'H' as u16;
 const CS: u16 = b'C' as u16 * 256 + b'S' as u16;
 
 const RE: u16 = b'R' as u16 * 256 + b'E' as u16;
+
+// The most parties whose mask has four bytes.
+const MOST_NARROW: u8 = 32;
 
 // The byte at a place, and 0 past the end.
 pub fn byte(s: &[u8], at: usize) -> u8
@@ -73,10 +76,17 @@ pub fn dealing_length(n: u8, t: u8, a: u8) -> usize
     4 + 4 * parameters::quorum(t, a) as usize + 4 * n as usize
 }
 
+// The bytes of the mask of a complaint row: four for up to 32 parties, eight for more.
+pub fn mask_width(n: u8) -> u8
+    ensures { λ r. ⌜ r ≡ maskWidth n ⌝ }
+{
+    if n <= MOST_NARROW { 4 } else { 8 }
+}
+
 pub fn complaint_length(n: u8) -> usize
     ensures { λ r. ⌜ r ≡ complaintLength n ⌝ }
 {
-    8
+    4 + mask_width(n) as usize
 }
 
 pub fn challenges_length(n: u8, t: u8, a: u8) -> usize
@@ -102,4 +112,16 @@ pub fn shares_from(t: u8, a: u8) -> u16
     ensures { λ r. ⌜ r ≡ sharesFrom t a ⌝ }
 {
     4 + 4 * parameters::quorum(t, a)
+}
+
+// The mask of a complaint row of a committee of n, high byte first.
+pub fn mask(n: u8, s: &[u8]) -> u64
+    ensures { λ r. ⌜ r ≡ maskAt n (now (s .entry)) ⌝ }
+{
+    let width = mask_width(n);
+    let mut number: u64 = 0;
+    for i in 0..width {
+        number = number * 256 + byte(s, 4 + i as usize) as u64;
+    }
+    number
 }

@@ -10,8 +10,8 @@ use borrow.Author.Tests.{le-leb, ltb-true, lt-ltb, eqb-true, eq-eqb}
 use Rattle.lists.specs.TestLaws.{and-right, all-at, all-make, require-pass, passed, or-next, next-pass}
 use Rattle.field.specs.Definitions.{isScalar, isElement}
 use Rattle.parameters.specs.Definitions.{quorum, batch}
-use Rattle.records.specs.Bytes.{byteAt, numberAt, word, sender}
-use Rattle.records.specs.Tags.{setupLength, dealingLength, complaintLength, responseLength, sharesFrom}
+use Rattle.records.specs.Bytes.{byteAt, word, sender}
+use Rattle.records.specs.Tags.{setupLength, dealingLength, complaintLength, responseLength, sharesFrom, maskAt}
 use Rattle.refusals.specs.Refusals.{setupRefusal, headRefusal, dealingRefusal, maskFits, complaintRefusal, responseRefusal}
 use Rattle.parameters.specs.ParameterLaws.{Bounds, bounds-of, bounds-test, party-of, party-test}
 
@@ -94,7 +94,7 @@ dealing-passes n t a s h =
 pub record PassedComplaint (n : ℕ) (s : List ℕ) : Type 0 where
   pub sender-pos : 0 < sender s
   pub sender-max : sender s ≤ n
-  pub mask : numberAt s 4 < 2 ^ n
+  pub mask : maskAt n s < 2 ^ n
   pub long : length s ≡ complaintLength n
   pub reserved : byteAt s 3 ≡ 0
 

@@ -8,8 +8,8 @@ use lib.Dec.{eqb, ltb, leb}
 use Rattle.lists.specs.Tests.{allTo, require, orNext}
 use Rattle.field.specs.Definitions.{isScalar, isElement}
 use Rattle.parameters.specs.Definitions.{inBounds, quorum, batch, isParty}
-use Rattle.records.specs.Bytes.{byteAt, numberAt, word, sender}
-use Rattle.records.specs.Tags.{setupLength, dealingLength, complaintLength, challengesLength, shiftedLength, responseLength, sharesFrom}
+use Rattle.records.specs.Bytes.{byteAt, word, sender}
+use Rattle.records.specs.Tags.{setupLength, dealingLength, complaintLength, challengesLength, shiftedLength, responseLength, sharesFrom, maskAt}
 
 -- SU: n, t, a, reserved; S, S_1 to S_t
 unfoldable pub setupRefusal : List ℕ → ℕ
@@ -41,7 +41,7 @@ maskFits n mask = ltb mask (2 ^ n)
 unfoldable pub complaintRefusal : ℕ → List ℕ → ℕ
 complaintRefusal n s =
     orNext (headRefusal n (complaintLength n) s)
-    (require (maskFits n (numberAt s 4)) 8 0)
+    (require (maskFits n (maskAt n s)) 8 0)
 
 -- CH and CS alike: the length, two reserved, so many scalars
 unfoldable pub scalarsRefusal : ℕ → ℕ → List ℕ → ℕ

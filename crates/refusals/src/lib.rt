@@ -7,8 +7,8 @@ ghost use Rattle.refusals.specs.Refusals.{maskFits, setupRefusal, headRe
 use field::Element;
 use field::Scalar;
 
-// The highest bit of a mask of four bytes.
-const LAST_BIT: u8 = 31;
+// The highest bit of a mask.
+const LAST_BIT: u8 = 63;
 
 // Whether the count numbers from a place on are all elements.
 pub fn all_elements(s: &[u8], at: u16, count: u16) -> bool
@@ -35,13 +35,13 @@ pub fn all_scalars(s: &[u8], at: u16, count: u16) -> bool
 }
 
 // Whether a mask has no bit above bit n - 1.
-pub fn mask_fits(n: u8, mask: u32) -> bool
+pub fn mask_fits(n: u8, mask: u64) -> bool
     ensures { λ r. ⌜ r ≡ maskFits n mask ⌝ }
 {
     if LAST_BIT < n {
         return true;
     }
-    (mask as u64) < (1u64 << n)
+    mask < (1u64 << n)
 }
 
 // The refusal of a setup, or 0.
@@ -108,7 +108,7 @@ pub fn complaint_refusal(n: u8, s: &[u8]) -> u8
     if number != 0 {
         return number;
     }
-    if !mask_fits(n, records::number(s, 4)) {
+    if !mask_fits(n, records::mask(n, s)) {
         return 8;
     }
     0

@@ -125,7 +125,7 @@ module _ (r : Run) (h : Regular r) where
       let few = h .complaining e in
       let silent = h .responses-none (omega arith) in
       let bounds = f .bounds in
-      let g = row-stage (r .complaints .count + 1) (r .setup .n - r .setup .t) (ltb (r .setup .t) (count (r .setup .n) (has (blamedBy (r .setup .n) (withComplaint (r .complaints) s))))) in
+      let g = row-stage (r .complaints .count + 1) (r .setup .n - r .setup .t) (ltb (r .setup .t) (count (r .setup .n) (has (blamedBy (r .setup .n) (withComplaint (r .setup .n) (r .complaints) s))))) in
       record {
         parties = h .parties;
         formed = λ p. record { stage-max = g .0 .1; bounds = bounds; dealings-max = f .dealings-max; complaints-max = omega arith; responses-max = f .responses-max };

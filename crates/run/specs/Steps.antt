@@ -33,7 +33,7 @@ afterDealing r s =
 
 unfoldable pub afterComplaint : Run → List ℕ → Run
 afterComplaint r s =
-    let rows = withComplaint (r .complaints) s in
+    let rows = withComplaint (r .setup .n) (r .complaints) s in
     setComplaints r (complaintStage (r .setup) rows) rows
 
 -- ---- CH, at stage 3: then 4

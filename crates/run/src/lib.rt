@@ -169,7 +169,7 @@ impl Run {
     {
         let setup = self.setup;
         let old = self.complaints;
-        let complaints = old.with(bytes);
+        let complaints = old.with(setup.n, bytes);
         let mut next = self;
         next.stage = complaints.stage(setup);
         next.complaints = complaints;

@@ -1,11 +1,13 @@
 -- Laws of the bits of a mask.
 -- Assumes nothing.
-use mathlib.Core.Path.{_≡_, refl, sym, ap, _∙_}
+use mathlib.Core.Path.{_≡_, refl, sym, ap, ap₂, _∙_}
 use mathlib.Core.Bool.{false, not, _&&_, _||_}
-use Prim.Native.Nat.{ℕ, zero, suc, _-_, _/_, _%_, _^_, _≤_, _<_, min, max}
+use Prim.Native.Nat.{ℕ, zero, suc, _+_, _*_, _-_, _/_, _%_, _^_, _≤_, _<_, min, max}
 use native.Mathlib.Omega.{arith}
-use native.Mathlib.Nat.{pow-suc, mul-comm, div-one, div-div-eq-div-mul}
-use lib.Bits.{bitAnd, bitOr, and-step, and-le-l, or-step}
+use native.Mathlib.Nat.{zero-add, suc-add, pow-suc, mul-comm, div-one, div-div-eq-div-mul}
+use lib.Bits.{bitAnd, bitOr, block-half, block-odd, and-step, and-le-l, or-step}
+use mathlib.Core.Logic.{_≢_}
+use borrow.Author.Tests.{eqb-false}
 use lib.Dec.{eqb, eqb·zero-suc, eqb·suc-zero, eqb·suc-suc}
 use Rattle.sets.specs.Masks.{bit, minus}
 
@@ -63,6 +65,24 @@ bit-is m (suc i) =
     bit-is (m / 2) i
     ∙ ap (λ (x : ℕ). eqb (x % 2) 1) (div-div-eq-div-mul m 2 (2 ^ i) ∙ ap (λ (x : ℕ). m / x) (mul-comm 2 (2 ^ i) ∙ sym (pow-suc 2 i)))
 
+-- ---- a mask of k bits below another
+
+pub bit-low : (k high low i : ℕ) → i < k → bit (high * 2 ^ k + low) i ≡ bit low i
+unfolding bit
+bit-low zero high low i l = absurd (omega arith)
+bit-low (suc k) high low zero l = ap (λ (x : ℕ). eqb x 1) (block-odd high k low)
+bit-low (suc k) high low (suc i) l = ap (λ (x : ℕ). bit x i) (block-half high k low) ∙ bit-low k high (low / 2) i (omega arith)
+
+pub bit-over : (k high low i : ℕ) → low < 2 ^ k → bit (high * 2 ^ k + low) (k + i) ≡ bit high i
+unfolding bit
+bit-over zero high low i l =
+    let whole : high * 2 ^ 0 + low ≡ high = omega arith in
+    ap₂ bit whole (zero-add i)
+bit-over (suc k) high low i l =
+    ap (bit (high * 2 ^ suc k + low)) (suc-add k i)
+    ∙ ap (λ (x : ℕ). bit x (k + i)) (block-half high k low)
+    ∙ bit-over k high (low / 2) i (omega (arith, pow-suc 2 k))
+
 -- ---- bits and bounds
 
 -- below 2 ^ k no bit from k is set
@@ -72,3 +92,9 @@ bit-high zero zero m l h = let z : m ≡ 0 = omega arith in ap (λ (x : ℕ). eq
 bit-high zero (suc i) m l h = let z : m / 2 ≡ 0 = omega arith in ap (λ (x : ℕ). bit x i) z ∙ bit-zero i
 bit-high (suc k) zero m l h = absurd (omega arith)
 bit-high (suc k) (suc i) m l h = bit-high k i (m / 2) (omega (arith, pow-suc 2 k)) (omega arith)
+
+-- a mask of k + 1 bits whose highest is not set has k
+pub bit-none : (k m : ℕ) → m < 2 ^ suc k → bit m k ≡ false → m < 2 ^ k
+unfolding bit
+bit-none zero m l e = let odd : m % 2 ≢ 1 = eqb-false (m % 2) 1 e in omega arith
+bit-none (suc k) m l e = let half : m / 2 < 2 ^ k = bit-none k (m / 2) (omega (arith, pow-suc 2 (suc k))) e in omega (arith, pow-suc 2 k)

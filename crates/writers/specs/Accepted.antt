@@ -1,7 +1,7 @@
 -- Every record that the writers make is accepted (document 01, "Acceptance is certain thus"). Assumes nothing.
-use mathlib.Core.Path.{_≡_, refl, ap, _∙_}
+use mathlib.Core.Path.{_≡_, refl, sym, ap, _∙_}
 use mathlib.Core.Bool.{true, false, not, not-or-self}
-use mathlib.Core.List.{List, [], _∷_}
+use mathlib.Core.List.{List, [], _∷_, append-nil}
 use Prim.Native.Nat.{ℕ, _+_, _<_}
 use native.Mathlib.Omega.{arith}
 use borrow.Author.Tests.{le-ltb}
@@ -13,10 +13,11 @@ use Rattle.field.specs.Definitions.{scalar, generator, IsScalar, raise}
 use Rattle.field.specs.ScalarLaws.{scalar-word, plus-range}
 use Rattle.interpolation.specs.Definitions.{party}
 use Rattle.parameters.specs.Definitions.{batch}
-use Rattle.records.specs.Bytes.{byteAt, numberAt, word}
-use Rattle.records.specs.Tags.{letterD, letterE, letterR, letterS, letterU, letterV, tagOf, complaintLength, responseLength}
+use Rattle.records.specs.Bytes.{byteAt, wideAt, word}
+use Rattle.records.specs.Tags.{letterD, letterE, letterR, letterS, letterU, letterV, tagOf, maskWidth, complaintLength, responseLength, maskAt}
 use Rattle.refusals.specs.RefusalLaws.{complaint-passes, response-passes}
-use Rattle.encoding.specs.ByteLaws.{length-fours, word-last, number-at}
+use Rattle.encoding.specs.Bytes.{bytesOf}
+use Rattle.encoding.specs.ByteLaws.{length-bytes, length-fours, word-last, wide-at}
 use Rattle.protocol.specs.Transcript.{keyAt}
 use Rattle.dealer.specs.Dealt.{setupRefused, setupBytes, dealingRefused, dealingBytes}
 use Rattle.dealer.specs.DealtLaws.{setup-unrefused, dealing-unrefused}
@@ -77,9 +78,13 @@ dealing-accepted r i values room stage e new =
 
 -- ---- VE: by the run it was made from, if j has no verdict there
 
-pub complaint-mask : (r : Run) (j : ℕ) → wellFormed r ≡ true → numberAt (complaintBytes r j) 4 ≡ maskOf (r .setup .n) (mayBlame (r .dealings) j)
-unfolding complaintBytes
-complaint-mask r j w = number-at (letterV ∷ letterE ∷ j ∷ 0 ∷ []) (maskOf (r .setup .n) (mayBlame (r .dealings) j)) [] (mask-lt r j w)
+pub complaint-mask : (r : Run) (j : ℕ) → wellFormed r ≡ true → maskAt (r .setup .n) (complaintBytes r j) ≡ maskOf (r .setup .n) (mayBlame (r .dealings) j)
+unfolding complaintBytes maskAt
+complaint-mask r j w =
+    let width = maskWidth (r .setup .n) in
+    let mask = maskOf (r .setup .n) (mayBlame (r .dealings) j) in
+    ap (λ (s : List ℕ). wideAt width (letterV ∷ letterE ∷ j ∷ 0 ∷ s) 4) (sym (append-nil (bytesOf width mask)))
+    ∙ wide-at width (letterV ∷ letterE ∷ j ∷ 0 ∷ []) mask [] (mask-lt r j w)
 
 pub complaint-accepted : (r : Run) (j room : ℕ) → complaintRefused r j room ≡ 0 → has (r .complaints .holders) j ≡ false → stepOf r (complaintBytes r j) .number ≡ 0
 unfolding takenAt handlerAt atStage handled tagOf byteAt complaintBytes complaintNumber complaintLength
@@ -95,7 +100,7 @@ complaint-accepted r j room e new =
       sender-pos = fits .party-pos;
       sender-max = fits .party-max;
       mask = rw mask (maskOf-lt n (mayBlame (r .dealings) j));
-      long = refl;
+      long = ap (λ (k : ℕ). 4 + k) (length-bytes (maskWidth n) _);
       reserved = refl;
     }))
     (require-pass _ _ _ (ap not new)

@@ -3,7 +3,7 @@
 use mathlib.Core.Path.{_≡_, fun-ext}
 use mathlib.Core.Bool.{true}
 use mathlib.Core.List.{List}
-use Prim.Native.Nat.{ℕ, _^_, _≤_, _<_}
+use Prim.Native.Nat.{ℕ, _*_, _^_, _≤_, _<_}
 use native.Mathlib.Omega.{arith}
 use native.Mathlib.Nat.{le-trans}
 use lib.Pow.{pow-mono}
@@ -12,7 +12,8 @@ use borrow.Author.Tests.{eqb-true}
 use Rattle.lists.specs.TestLaws.{passed}
 use Rattle.sets.specs.Masks.{has, maskOf}
 use Rattle.sets.specs.MaskLaws.{has-minus, maskOf-lt}
-use Rattle.records.specs.Tags.{complaintLength, responseLength}
+use Rattle.records.specs.Tags.{maskWidth, complaintLength, responseLength}
+use Rattle.records.specs.RecordLaws.{width-enough}
 use Rattle.parameters.specs.ParameterLaws.{party-of}
 use Rattle.dealing.specs.Definitions.{mayBlame}
 use Rattle.complaint.specs.Definitions.{blamedBy, unblamed}
@@ -48,9 +49,9 @@ complaint-fits r j room e =
       exact = eqb-true _ _ (v .0);
     }
 
--- the mask of the wrong dealers has four bytes
-pub mask-lt : (r : Run) (j : ℕ) → wellFormed r ≡ true → maskOf (r .setup .n) (mayBlame (r .dealings) j) < 2 ^ 32
-mask-lt r j w = le-trans (maskOf-lt (r .setup .n) (mayBlame (r .dealings) j)) (pow-mono (formed-of r w .bounds .n-max))
+-- the mask of the wrong dealers is as wide as a mask of n parties
+pub mask-lt : (r : Run) (j : ℕ) → wellFormed r ≡ true → maskOf (r .setup .n) (mayBlame (r .dealings) j) < 2 ^ (8 * maskWidth (r .setup .n))
+mask-lt r j w = le-trans (maskOf-lt (r .setup .n) (mayBlame (r .dealings) j)) (pow-mono (width-enough (formed-of r w .bounds .n-max)))
 
 -- ---- RE
 

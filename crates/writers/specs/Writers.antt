@@ -12,8 +12,8 @@ use Rattle.field.specs.declared.Scalar.{Scalar}
 use Rattle.field.specs.Definitions.{scalar, isScalar, plus, times}
 use Rattle.interpolation.specs.Definitions.{party}
 use Rattle.parameters.specs.Definitions.{batch, isParty}
-use Rattle.records.specs.Tags.{letterE, letterR, letterV, complaintLength, responseLength}
-use Rattle.encoding.specs.Bytes.{four, fours}
+use Rattle.records.specs.Tags.{letterE, letterR, letterV, maskWidth, complaintLength, responseLength}
+use Rattle.encoding.specs.Bytes.{bytesOf, fours}
 use Rattle.protocol.specs.Transcript.{Transcript, validShare, coefficient, challengeAt}
 use Rattle.run.specs.declared.Run.{Run}
 use Rattle.run.specs.Runs.{stageOf, transcriptOf}
@@ -29,7 +29,7 @@ complaintRefused r j room =
 
 -- it blames exactly the accepted dealers whose share for j is not valid
 unfoldable pub complaintBytes : Run → ℕ → List ℕ
-complaintBytes r j = letterV ∷ letterE ∷ j ∷ 0 ∷ four (maskOf (r .setup .n) (mayBlame (r .dealings) j))
+complaintBytes r j = letterV ∷ letterE ∷ j ∷ 0 ∷ bytesOf (maskWidth (r .setup .n)) (maskOf (r .setup .n) (mayBlame (r .dealings) j))
 
 -- ---- RE, from a run, j, F(j) and n shares by dealer number, of which only those of QUAL are read or tested for range
 

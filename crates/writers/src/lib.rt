@@ -16,9 +16,6 @@ ghost use Rattle.writers.specs.Writers.{complaintRefused, complaintBytes
 use field::Scalar;
 use run::Run;
 
-// One more than the largest number of four bytes.
-const WORD: u64 = 4294967296;
-
 // The accepted dealers whose share for j is not valid.
 fn wrong_dealers(run: Run, j: u8) -> u64
     requires { ⌜ run .setup .n ≤ mostParties ⌝ }
@@ -67,7 +64,7 @@ pub fn write_complaint(run: Run, j: u8, out: &mut [u8]) -> u8
     out[1] = b'E';
     out[2] = j;
     out[3] = 0;
-    encoding::put(out, 4, (mask % WORD) as u32);
+    encoding::put_bytes(out, 4, records::mask_width(run.setup.n), mask);
     0
 }
 

@@ -1,4 +1,4 @@
--- `signature_at` meets its contract: the number that is kept at the place of (u,k), which is among the 512. Assumes nothing.
+-- `signature_at` meets its contract: the number that is kept at the place of (u,k), which is among the kept ones. Assumes nothing.
 use borrow.Author.Needs.{needs}
 use borrow.Author.Tests.{leb-true, eq-eqb}
 use native.Mathlib.Omega.{arith}
@@ -9,7 +9,7 @@ use mathlib.Core.Bool.{true, false, and-eq-true-iff}
 use lib.Arith.{digits-lt}
 use lib.Dec.{eqb}
 use Rattle.lists.specs.CallLaws.{holds, fails, is-not}
-use Rattle.parameters.specs.Definitions.{batch}
+use Rattle.parameters.specs.Definitions.{cells, batch}
 use Rattle.parameters.specs.ParameterLaws.{cells-max}
 use Rattle.arrays.specs.Arrays.{cell}
 use Rattle.run.specs.declared.Run.{Run}
@@ -19,8 +19,8 @@ use Rattle.answers.specs.Answers.{inBatch, phiAnswer}
 use Rattle.answers.proofs.signature_at.Statement.{statement}
 use Rattle.answers.proofs.signature_at.Tie as tie
 
--- (u,k) of the batch of a run at stage 5: both are at least 1, and their place is among the 512
-placed : (r : Run) (u k : ℕ) → stageOf r ≡ 5 → inBatch r u k ≡ true → (1 ≤ u) × (1 ≤ k) × ((u - 1) * r .setup .a + (k - 1) < 512)
+-- (u,k) of the batch of a run at stage 5: both are at least 1, and their place is among the kept ones
+placed : (r : Run) (u k : ℕ) → stageOf r ≡ 5 → inBatch r u k ≡ true → (1 ≤ u) × (1 ≤ k) × ((u - 1) * r .setup .a + (k - 1) < cells)
 unfolding inBatch
 placed r u k e h =
     let p = and-eq-true-iff _ _ .0 h in
@@ -56,7 +56,7 @@ unfolding phiAnswer
 returns-2 c = rw (eq-eqb _ _ (done (c .before .before)), fails (c .before .in-batch .ensures) (c .if2 .taken))
 
 here : (c : tie.Else2) → let a = c .before .before .before .before .args in
-    (1 ≤ a .u) × (1 ≤ a .k) × ((a .u - 1) * a .run .setup .a + (a .k - 1) < 512)
+    (1 ≤ a .u) × (1 ≤ a .k) × ((a .u - 1) * a .run .setup .a + (a .k - 1) < cells)
 here c = placed _ _ _ (done (c .before .before)) (holds (c .before .in-batch .ensures) (c .if2 .left))
 
 sub-at : tie.Need-sub-at

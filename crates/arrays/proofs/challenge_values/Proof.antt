@@ -9,6 +9,7 @@ use lib.ListN.{length, getD, List·getD-eq-default}
 use Rattle.field.specs.declared.Scalar.{Scalar}
 use Rattle.lists.specs.StoreLaws.{stored-none}
 use Rattle.field.specs.Definitions.{scalar}
+use Rattle.parameters.specs.Definitions.{cells}
 use Rattle.arrays.specs.Arrays.{cell, challengeIn, scalars}
 use Rattle.arrays.specs.LoopLaws.{front, front-next, front-capped}
 use Rattle.arrays.proofs.challenge_values.Statement.{statement}
@@ -75,7 +76,7 @@ loop-again c =
     let s = c .before .before .before .before .before in
     let l = c .before .before .loop in
     let list = s .args .t1 in
-    let full : length list ≡ 512 = s .good .0 .1 .0 .1 in
+    let full : length list ≡ cells = s .good .0 .1 .0 .1 in
     let place : c .before .before .before .predecessor .result * s .args .a + l .v ≡ cell (s .args .a) (s .args .u) (l .v + 1) = ap₂ _+_ (l .inv .2) (omega arith) in
     let f : ℕ → Scalar = λ k. challengeIn (s .args .a) list (s .args .u) (k + 1) in
     let value : c .if1 .values ≡ f (l .v) = ⊎-elim (λ w. w .2 ∙ ap (λ (k : ℕ). getD list k (scalar 0)) place) (λ w. w .1 ∙ sym (List·getD-eq-default list (scalar 0) (omega arith))) (c .if1 .came) in

@@ -8,6 +8,7 @@ use lib.ListN.{length, getD, List·getD-eq-default}
 use Rattle.lists.specs.StoreLaws.{stored-none, getD-default}
 use Rattle.field.specs.declared.Element.{Element}
 use Rattle.field.specs.Definitions.{identity}
+use Rattle.parameters.specs.Definitions.{mostParties}
 use Rattle.arrays.specs.Arrays.{elements}
 use Rattle.arrays.specs.LoopLaws.{front, front-next, front-capped}
 use Rattle.arrays.proofs.key_values.Statement.{statement}
@@ -63,7 +64,7 @@ loop-again c =
     let s = c .before .before .before .before .before in
     let l = c .before .before .before .loop in
     let key = s .args .t1 in
-    let full : length key ≡ 32 = s .good .0 .1 .0 .1 in
+    let full : length key ≡ mostParties = s .good .0 .1 .0 .1 in
     let f : ℕ → Element = λ k. getD key (k + 1 - s .args .a) identity in
     let place : c .before .if1 .j ≡ l .v + 1 - s .args .a = ⊎-elim (λ w. omega arith) (λ w. omega arith) (c .before .if1 .came) in
     let value : c .if2 .values ≡ f (l .v) =

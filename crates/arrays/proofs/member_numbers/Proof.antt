@@ -10,6 +10,7 @@ use Rattle.sets.specs.Masks.{has, members}
 use Rattle.sets.specs.MemberLaws.{count-before}
 use Rattle.field.specs.declared.Scalar.{Scalar}
 use Rattle.field.specs.Definitions.{scalar}
+use Rattle.parameters.specs.Definitions.{stride, places}
 use Rattle.arrays.specs.Arrays.{base, memberNumbers, scalars}
 use Rattle.arrays.specs.LoopLaws.{chosen, Passed, passed-none, passed-skip, passed-take}
 use Rattle.arrays.proofs.member_numbers.Statement.{statement}
@@ -85,8 +86,8 @@ number c =
     let s = c .before .before .before .before .before .before in
     let l = c .before .before .before .before .loop in
     let numbers = s .args .t3 in
-    let full : length numbers ≡ 1024 = s .good .1 .1 .0 .1 .0 .1 in
-    let place : l .i * 32 + c .before .before .before .before .before .predecessor .result ≡ base (l .i + 1) + (s .args .u - 1) = omega arith in
+    let full : length numbers ≡ places = s .good .1 .1 .0 .1 .0 .1 in
+    let place : l .i * stride + c .before .before .before .before .before .predecessor .result ≡ base (l .i + 1) + (s .args .u - 1) = omega arith in
     ⊎-elim
     (λ w. w .2 ∙ ap (λ (k : ℕ). getD numbers k (scalar 0)) place)
     (λ w. w .1 ∙ sym (List·getD-eq-default numbers (scalar 0) (omega arith)))

@@ -6,6 +6,7 @@ use borrow.Author.Needs.{needs}
 use lib.ListN.{length}
 use Rattle.interpolation.specs.PointLaws.{slot-is}
 use Rattle.rows.specs.BasisLaws.{weights-by}
+use Rattle.parameters.specs.Definitions.{cells}
 use Rattle.parameters.specs.ParameterLaws.{Bounds, quorum-max}
 use Rattle.text.specs.Texts.{Wrote}
 use Rattle.text.specs.TextLaws.{wrote-none, wrote-length, wrote-append}
@@ -97,7 +98,7 @@ cast-phi c = omega (arith, slots (c .before .before .before .before))
 -- the place of φ(u,k) is in the array
 placed : (c : tie.In-loop Inv-loop μ-loop) →
     let a = start (c .before) .args in
-    (a .u - 1) * a .t3 .setup .a + c .before .loop .k < 512
+    (a .u - 1) * a .t3 .setup .a + c .before .loop .k < cells
 placed c =
     let s = start (c .before) in
     kept-below (bounds s) (s .args .u) (c .before .loop .k) (s .pre .1) (s .pre .2) (c .loop-test .taken)
@@ -117,7 +118,7 @@ add-put-signature c = omega (arith, slots (c .before .before .before .before .be
 -- the buffer is as long as it was, and the place has gone on by at most 48 for each slot
 room : (c : tie.At-loop Inv-loop μ-loop) →
     let a = start c .args in
-    (length (c .loop .out) ≡ length (a .out .now)) × (c .loop .next ≤ a .at + 48 * c .loop .k)
+    (length (c .loop .out) ≡ length (a .out .now)) × (c .loop .next ≤ a .at + mostLine * c .loop .k)
 room c =
     let a = start c .args in
     (wrote-length (c .loop .inv .1), omega (arith, c .loop .inv .1 .place, row-max (a .t3) (a .u) (c .loop .k)))

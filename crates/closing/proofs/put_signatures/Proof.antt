@@ -5,14 +5,14 @@ use native.Mathlib.Nat.{zero-mul, mul-le-mul, mul-comm, le-refl}
 use native.Mathlib.Omega.{arith}
 use borrow.Author.Needs.{needs}
 use lib.ListN.{length}
-use Rattle.parameters.specs.Definitions.{batch}
+use Rattle.parameters.specs.Definitions.{mostParties, batch}
 use Rattle.parameters.specs.ParameterLaws.{Bounds, batch-max, cells-max}
 use Rattle.text.specs.Texts.{Wrote}
 use Rattle.text.specs.TextLaws.{wrote-none, wrote-length, wrote-append}
 use Rattle.combination.specs.Combination.{powersAt}
 use Rattle.combination.specs.PowerLaws.{powers-none, powers-next}
 use Rattle.run.specs.RunLaws.{formed-of}
-use Rattle.closing.specs.Closing.{signatureLines}
+use Rattle.closing.specs.Closing.{mostLine, signatureLines}
 use Rattle.closing.specs.SignatureLaws.{rows-next, signatures-max}
 use Rattle.closing.proofs.put_signatures.Statement.{statement}
 use Rattle.closing.proofs.put_signatures.Tie as tie
@@ -34,7 +34,7 @@ bounds : (s : tie.Start Inv-loop μ-loop) → Bounds (s .args .run .setup .n) (s
 bounds s = formed-of (s .args .run) (s .pre .0) .bounds
 
 -- the rows are few
-rows : (c : tie.In-loop Inv-loop μ-loop) → c .before .loop .u < 30
+rows : (c : tie.In-loop Inv-loop μ-loop) → c .before .loop .u < mostParties
 rows c =
     let b = c .before .before .before in
     omega (arith, c .loop-test .taken, b .batch .ensures, batch-max (bounds (b .before .before)))
@@ -45,7 +45,7 @@ add-put-row c = omega (arith, rows (c .before))
 -- the buffer is as long as it was, and the place has gone on by at most 48 for each signature
 room : (c : tie.At-loop Inv-loop μ-loop) →
     let a = c .before .before .before .before .args in
-    (length (c .loop .out) ≡ length (a .out .now)) × (c .loop .next ≤ a .at + 48 * (c .loop .u * a .run .setup .a))
+    (length (c .loop .out) ≡ length (a .out .now)) × (c .loop .next ≤ a .at + mostLine * (c .loop .u * a .run .setup .a))
 room c =
     let a = c .before .before .before .before .args in
     (wrote-length (c .loop .inv .2), omega (arith, c .loop .inv .2 .place, signatures-max (a .run) (c .loop .u * a .run .setup .a)))

@@ -10,6 +10,7 @@ use Rattle.lists.specs.StoreLaws.{stored-none, getD-default}
 use Rattle.sets.specs.Masks.{has}
 use Rattle.field.specs.declared.Element.{Element}
 use Rattle.field.specs.Definitions.{identity, product}
+use Rattle.parameters.specs.Definitions.{stride, places}
 use Rattle.arrays.specs.Arrays.{base, commitmentIn, elements}
 use Rattle.combination.specs.Combination.{combinedValue}
 use Rattle.arrays.specs.LoopLaws.{front, front-next, front-capped}
@@ -80,8 +81,8 @@ value c =
     let l = i .before .before in
     let s = l .before .before in
     let powers = s .args .t1 in
-    let full : length powers ≡ 1024 = s .good .0 .1 .0 .1 in
-    let place : i .loop2 .i * 32 + l .loop .v ≡ base (i .loop2 .i + 1) + l .loop .v = omega arith in
+    let full : length powers ≡ places = s .good .0 .1 .0 .1 in
+    let place : i .loop2 .i * stride + l .loop .v ≡ base (i .loop2 .i + 1) + l .loop .v = omega arith in
     ⊎-elim
     (λ w. w .2 ∙ getD-default powers _ _ identity (omega (arith, w .0 .taken)) ∙ ap (λ (k : ℕ). getD powers k identity) place)
     (λ w. w .1 ∙ sym (List·getD-eq-default powers identity (omega arith)))

@@ -10,16 +10,17 @@ use Rattle.lists.specs.Stores.{stored}
 use Rattle.lists.specs.StoreLaws.{getD-default, stored-first, stored-capped}
 use Rattle.field.specs.declared.Element.{Element}
 use Rattle.field.specs.Definitions.{identity, powered}
+use Rattle.parameters.specs.Definitions.{stride, places}
 use Rattle.combination.specs.Combination.{raised}
 use Rattle.combination.proofs.raised.Statement.{statement}
 use Rattle.combination.proofs.raised.Tie as tie
 
 -- the power at a place
 abbrev power-at : List Element → ℕ → Element
-power-at list at = powered (getD list at identity) (at / 32 + 1)
+power-at list at = powered (getD list at identity) (at / stride + 1)
 
 abbrev Inv-loop : tie.InvT-loop
-Inv-loop n list count next₀ at₀ next at = (at ≤ count) × (count ≡ min (n * 32) 1024) × (length list ≡ 1024) × (next ≡ stored list 0 at (power-at list))
+Inv-loop n list count next₀ at₀ next at = (at ≤ count) × (count ≡ min (n * stride) places) × (length list ≡ places) × (next ≡ stored list 0 at (power-at list))
 
 abbrev μ-loop : tie.MeasureT-loop
 μ-loop n list count next₀ at₀ next at = count - at
@@ -65,7 +66,7 @@ loop-again c =
       omega arith,
       l .inv .1,
       l .inv .2,
-      ap₂ (λ (r : List Element) (x : Element). set r (l .at) x) (l .inv .3) (c .power .ensures ∙ ap (λ (v : Element). powered v (l .at / 32 + 1)) (getD-default list (l .at) _ identity (omega arith))) ∙ sym (stored-first list (l .at) (power-at list)),
+      ap₂ (λ (r : List Element) (x : Element). set r (l .at) x) (l .inv .3) (c .power .ensures ∙ ap (λ (v : Element). powered v (l .at / stride + 1)) (getD-default list (l .at) _ identity (omega arith))) ∙ sym (stored-first list (l .at) (power-at list)),
     )
 
 returns : tie.Need-returns Inv-loop μ-loop
@@ -73,8 +74,8 @@ unfolding raised
 returns c =
     let a = c .before .before .before .args in
     let l = c .before .loop in
-    let end : l .at ≡ min (a .n * 32) (length (a .t1)) = omega arith in
-    l .inv .3 ∙ ap (λ (k : ℕ). stored (a .t1) 0 k (power-at (a .t1))) end ∙ stored-capped (a .t1) (a .n * 32) (power-at (a .t1))
+    let end : l .at ≡ min (a .n * stride) (length (a .t1)) = omega arith in
+    l .inv .3 ∙ ap (λ (k : ℕ). stored (a .t1) 0 k (power-at (a .t1))) end ∙ stored-capped (a .t1) (a .n * stride) (power-at (a .t1))
 
 pub raised-spec : {M : Type 1} → statement M
 raised-spec =

@@ -7,13 +7,14 @@ use Prim.Native.Nat.{ℕ, _+_, _-_, _≤_}
 use Rattle.sets.specs.Masks.{maskOf, insert}
 use Rattle.rows.specs.Definitions.{weightsBy}
 use Rattle.interpolation.specs.PointLaws.{party-is}
+use Rattle.parameters.specs.Definitions.{mostParties}
 use Rattle.parameters.specs.ParameterLaws.{bounds-of, quorum-max}
 use Rattle.dealing.proofs.Shares.{unfit, share-next, wrong-shares}
 use Rattle.dealing.proofs.wrong_shares.Statement.{statement}
 use Rattle.dealing.proofs.wrong_shares.Tie as tie
 
 abbrev Inv-loop : tie.InvT-loop
-Inv-loop bytes quorum values basis from wrong₀ i₀ i-end wrong i = (i ≤ i-end) × (i-end ≤ 32) × (wrong ≡ maskOf i (unfit basis values bytes from))
+Inv-loop bytes quorum values basis from wrong₀ i₀ i-end wrong i = (i ≤ i-end) × (i-end ≤ mostParties) × (wrong ≡ maskOf i (unfit basis values bytes from))
 
 abbrev μ-loop : tie.MeasureT-loop
 μ-loop bytes quorum values basis from wrong₀ i₀ i-end wrong i = i-end - i

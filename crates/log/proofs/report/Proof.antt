@@ -4,14 +4,14 @@ use native.Mathlib.Nat.{zero-add}
 use borrow.Author.Needs.{needs}
 use borrow.Author.Tests.{lt-ltb, le-ltb}
 use Rattle.text.specs.Lines.{fields, line}
-use Rattle.log.specs.Report.{reportOf}
-use Rattle.log.specs.Printed.{printed}
+use Rattle.log.specs.Report.{longest, reportOf}
+use Rattle.log.specs.Printed.{mostReport, printed}
 use Rattle.log.proofs.report.Statement.{statement}
 use Rattle.log.proofs.report.Tie as tie
 
 returns : tie.Need-returns
 unfolding printed
-returns c = rw (lt-ltb _ 300000 (c .if1 .taken)) (refl, refl)
+returns c = rw (lt-ltb _ mostReport (c .if1 .taken)) (refl, refl)
 
 slice-aggregate-put-text : tie.Need-slice-aggregate-put-text
 slice-aggregate-put-text c = search needs
@@ -27,7 +27,7 @@ unfolding printed reportOf line fields
 returns-2 c =
     let w = c .before .before in
     let long = w .before .before .before in
-    rw (le-ltb _ 300000 (long .before .if1 .left), lt-ltb 65536 _ (long .if2 .taken)) (w .put-text .ensures .place, w .put-text .ensures .bytes)
+    rw (le-ltb _ mostReport (long .before .if1 .left), lt-ltb longest _ (long .if2 .taken)) (w .put-text .ensures .place, w .put-text .ensures .bytes)
 
 put-page-requires : tie.Need-put-page-requires
 put-page-requires c κs = search needs
@@ -40,7 +40,7 @@ unfolding printed reportOf
 returns-3 c =
     let w = c .before .before in
     let short = w .before .before in
-    rw (le-ltb _ 300000 (short .before .if1 .left), le-ltb 65536 _ (short .if2 .left)) (w .put-page .ensures .place ∙ zero-add _, w .put-page .ensures .bytes)
+    rw (le-ltb _ mostReport (short .before .if1 .left), le-ltb longest _ (short .if2 .left)) (w .put-page .ensures .place ∙ zero-add _, w .put-page .ensures .bytes)
 
 pub report-spec : {M : Type 1} → statement M
 report-spec =

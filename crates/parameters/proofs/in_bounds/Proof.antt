@@ -4,7 +4,7 @@ use borrow.Author.Tests.{le-leb, lt-leb}
 use mathlib.Core.Path.{_≡_}
 use mathlib.Core.Bool.{false}
 use lib.Dec.{leb}
-use Rattle.parameters.specs.Definitions.{inBounds}
+use Rattle.parameters.specs.Definitions.{mostParties, inBounds}
 use Rattle.parameters.proofs.in_bounds.Statement.{statement}
 use Rattle.parameters.proofs.in_bounds.Tie as tie
 
@@ -22,7 +22,7 @@ returns-2 c =
 
 returns-3 : tie.Need-returns-3
 unfolding inBounds
-returns-3 c = rw (le-leb 1 _ (c .before .before .if1 .left), le-leb 1 _ (c .before .if2 .left), lt-leb _ 32 (c .if3 .taken))
+returns-3 c = rw (le-leb 1 _ (c .before .before .if1 .left), le-leb 1 _ (c .before .if2 .left), lt-leb _ mostParties (c .if3 .taken))
 
 mul-result : tie.Need-mul-result
 mul-result c = search needs
@@ -38,7 +38,7 @@ add-result-2 c = search needs
 
 returns-4 : tie.Need-returns-4
 unfolding inBounds
-returns-4 c = rw (le-leb 1 _ (c .before .before .if1 .left), le-leb 1 _ (c .before .if2 .left), le-leb _ 32 (c .if3 .left))
+returns-4 c = rw (le-leb 1 _ (c .before .before .if1 .left), le-leb 1 _ (c .before .if2 .left), le-leb _ mostParties (c .if3 .left))
 
 pub in-bounds-spec : {M : Type 1} → statement M
 in-bounds-spec =

@@ -1,6 +1,8 @@
 -- `number` meets its contract. Assumes nothing.
 use borrow.Author.Needs.{needs}
-use Rattle.records.specs.Bytes.{numberAt}
+use native.Mathlib.Omega.{arith}
+use native.Mathlib.Nat.{add-zero}
+use Rattle.records.specs.Bytes.{wideAt, numberAt}
 use Rattle.records.proofs.number.Statement.{statement}
 use Rattle.records.proofs.number.Tie as tie
 
@@ -56,8 +58,10 @@ add-result-3 : tie.Need-add-result-3
 add-result-3 c = search needs
 
 returns : tie.Need-returns
-unfolding numberAt
-returns c = simp (c .before .before .before .byte .ensures, c .before .before .byte2 .ensures, c .before .byte3 .ensures, c .byte4 .ensures)
+unfolding numberAt wideAt
+returns c =
+    let first = c .before .before .before in
+    rw (first .byte .ensures, c .before .before .byte2 .ensures, c .before .byte3 .ensures, c .byte4 .ensures, add-zero (first .before .before .args .at)) (omega arith)
 
 pub number-spec : {M : Type 1} → statement M
 number-spec =

@@ -26,8 +26,8 @@ head c =
     let here = rw (c .before .before .complaint-length .ensures) at (c .before .head-refusal .ensures) in
     beyond here _ refl (c .if1 .left)
 
-number-requires : tie.Need-number-requires
-number-requires c κs = search needs
+mask-requires : tie.Need-mask-requires
+mask-requires c κs = search needs
 
 mask-fits-requires : tie.Need-mask-fits-requires
 mask-fits-requires c κs = search needs
@@ -35,16 +35,16 @@ mask-fits-requires c κs = search needs
 returns-2 : tie.Need-returns-2
 unfolding complaintRefusal
 returns-2 c =
-    let here = rw (c .before .before .number .ensures) at (c .before .mask-fits .ensures) in
+    let here = rw (c .before .before .mask .ensures) at (c .before .mask-fits .ensures) in
     test-number _ _ _ (head (c .before .before .before)) (fails here (c .if2 .taken))
 
 returns-3 : tie.Need-returns-3
 unfolding complaintRefusal
 returns-3 c =
-    let here = rw (c .before .before .number .ensures) at (c .before .mask-fits .ensures) in
+    let here = rw (c .before .before .mask .ensures) at (c .before .mask-fits .ensures) in
     sym (left _ _ _ (head (c .before .before .before)) (holds here (c .if2 .left)))
 
 pub complaint-refusal-spec : {M : Type 1} → statement M
 complaint-refusal-spec =
     tie.close
-    (tie.spec complaint-length-requires head-refusal-requires returns number-requires mask-fits-requires returns-2 returns-3)
+    (tie.spec complaint-length-requires head-refusal-requires returns mask-requires mask-fits-requires returns-2 returns-3)

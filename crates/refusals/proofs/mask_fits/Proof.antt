@@ -1,4 +1,4 @@
--- `mask_fits` meets its contract: a mask of 32 bits is below 2 ^ n from n = 32 on. Assumes nothing.
+-- `mask_fits` meets its contract: a mask of 64 bits is below 2 ^ n from n = 64 on. Assumes nothing.
 use borrow.Author.Needs.{needs}
 use borrow.Author.Tests.{lt-ltb}
 use native.Mathlib.Omega.{arith}
@@ -15,7 +15,7 @@ returns : tie.Need-returns
 unfolding maskFits
 returns c =
     let a = c .before .args in
-    let fits : a .mask < 2 ^ a .n = omega (arith, pow-mono {i = 32} {j = a .n} (c .if1 .taken)) in
+    let fits : a .mask < 2 ^ a .n = omega (arith, pow-mono {i = 64} {j = a .n} (c .if1 .taken)) in
     sym (lt-ltb (a .mask) (2 ^ a .n) fits)
 
 shl-result : tie.Need-shl-result

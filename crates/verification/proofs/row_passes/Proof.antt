@@ -13,7 +13,7 @@ use Rattle.field.specs.Definitions.{scalar, generator, product, raise, sameElem
 use Rattle.interpolation.specs.PointLaws.{party-is}
 use Rattle.rows.specs.Definitions.{sumOf, productOf}
 use Rattle.rows.specs.TurnLaws.{first, product-none, product-next}
-use Rattle.parameters.specs.Definitions.{batch}
+use Rattle.parameters.specs.Definitions.{mostParties, batch}
 use Rattle.records.specs.Bytes.{word, sender}
 use Rattle.parameters.specs.ParameterLaws.{bounds-of, quorum-max, batch-max}
 use Rattle.protocol.specs.Transcript.{passes}
@@ -35,7 +35,7 @@ abbrev μ-loop : tie.MeasureT-loop
 
 abbrev Inv-row : tie.InvT-row
 Inv-row setup bytes numbers qual quorum key at-slots at-points powers₀ passed₀ u₀ u-end powers passed u =
-    (u ≤ u-end) × (u-end ≤ 30) × (quorum ≤ 30) × (passed ≡ true)
+    (u ≤ u-end) × (u-end ≤ mostParties) × (quorum ≤ mostParties) × (passed ≡ true)
     × (powers ≡ powersAt (setup .n) powers₀ u)
     × (allTo u (fits setup powers₀ numbers qual quorum key at-slots at-points bytes) ≡ true)
 

@@ -23,7 +23,7 @@ known c =
     let a = c .before .before .before .args in
     complaint-fits (a .run) (a .j) (length (a .out .now)) (sym (c .before .complaint-refused .ensures) ∙ c .if1 .left)
 
-room : (c : tie.Else1) → length (c .before .before .before .args .out .now) ≡ 8
+room : (c : tie.Else1) → let a = c .before .before .before .args in length (a .out .now) ≡ 4 + maskWidth (a .run .setup .n)
 unfolding complaintLength
 room c = known c .exact
 

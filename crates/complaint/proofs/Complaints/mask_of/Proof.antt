@@ -4,6 +4,7 @@ use borrow.Author.Needs.{needs}
 use native.Mathlib.Omega.{arith}
 use mathlib.Core.Path.{_≡_, sym, _∙_}
 use lib.ListN.{length}
+use Rattle.parameters.specs.Definitions.{mostParties}
 use Rattle.complaint.specs.Definitions.{maskBy}
 use Rattle.complaint.specs.ComplaintLaws.{mask-zero, mask-past, mask-unheld}
 use Rattle.complaint.proofs.Complaints.mask_of.Statement.{statement}
@@ -18,7 +19,7 @@ returns c =
 returns-2 : tie.Need-returns-2
 returns-2 c =
     let a = c .before .before .args in
-    let long : length (a .t1 .masks) ≡ 32 = search needs in
+    let long : length (a .t1 .masks) ≡ mostParties = search needs in
     sym (mask-past (a .t1) (a .j) (omega arith))
 
 has-requires : tie.Need-has-requires

@@ -32,8 +32,8 @@ returns-2 c =
     sym (require-false _ 12 _ (ap not (c .if2 .taken)))
     ∙ sent (passed .before .complaint-refusal .ensures) (has (passed .before .before .before .args .self .holders)) _ _ (passed .if1 .left) (asked .before .byte .ensures) (asked .has .ensures)
 
-number-requires : tie.Need-number-requires
-number-requires c κs = search needs
+mask-requires : tie.Need-mask-requires
+mask-requires c κs = search needs
 
 blames-rightly-requires : tie.Need-blames-rightly-requires
 blames-rightly-requires c κs = search needs
@@ -46,7 +46,7 @@ left c =
     let first = c .before .before in
     let byte = first .before .before .byte .ensures in
     let passed = first .before .before .before in
-    rw (c .blames-rightly .ensures, c .before .number .ensures, byte)
+    rw (c .blames-rightly .ensures, c .before .mask .ensures, byte)
     (sym (require-true _ 12 _ (ap not (first .if2 .left))) ∙ sent (passed .before .complaint-refusal .ensures) (has (passed .before .before .before .args .self .holders)) _ _ (passed .if1 .left) byte (first .before .has .ensures))
 
 returns-3 : tie.Need-returns-3
@@ -66,7 +66,7 @@ number-spec =
     byte-requires
     has-requires
     returns-2
-    number-requires
+    mask-requires
     blames-rightly-requires
     returns-3
     returns-4)

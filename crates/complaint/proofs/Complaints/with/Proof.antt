@@ -7,7 +7,9 @@ use Prim.Native.Nat.{ℕ, _-_}
 use lib.ListN.{length, set}
 use lib.Seq.{set-out}
 use Rattle.sets.specs.Masks.{insert}
-use Rattle.records.specs.Bytes.{numberAt, sender}
+use Rattle.parameters.specs.Definitions.{mostParties}
+use Rattle.records.specs.Bytes.{sender}
+use Rattle.records.specs.Tags.{maskAt}
 use Rattle.complaint.specs.Definitions.{withComplaint}
 use Rattle.complaint.proofs.Complaints.with.Statement.{statement}
 use Rattle.complaint.proofs.Complaints.with.Tie as tie
@@ -24,11 +26,8 @@ predecessor-requires c κs = search needs
 cast-at : tie.Need-cast-at
 cast-at c = search needs
 
-number-requires : tie.Need-number-requires
-number-requires c κs = search needs
-
-cast-masks : tie.Need-cast-masks
-cast-masks c = search needs
+mask-requires : tie.Need-mask-requires
+mask-requires c κs = search needs
 
 mul-masks : tie.Need-mul-masks
 mul-masks c = search needs
@@ -39,7 +38,7 @@ array-write-masks c = search needs
 insert-requires : tie.Need-insert-requires
 insert-requires c κs = search needs
 
-long : (c : tie.Start) → length (c .args .self .masks) ≡ 32
+long : (c : tie.Start) → length (c .args .self .masks) ≡ mostParties
 long c = search needs
 
 returns : tie.Need-returns
@@ -54,8 +53,8 @@ returns c =
     let at : place .predecessor .result ≡ sender s - 1 = place .predecessor .ensures ∙ ap (λ (j : ℕ). j - 1) party in
     let size = long start in
     let holders = c .insert .ensures ∙ ap (insert (a .self .holders)) party in
-    let masks : kept .if1 .masks ≡ set (a .self .masks) (sender s - 1) (numberAt s 4) =
-    ⊎-elim (λ w. w .2 ∙ ap₂ (set (a .self .masks)) at (w .1 .ensures)) (λ w. w .1 ∙ sym (set-out (a .self .masks) (sender s - 1) (numberAt s 4) (omega arith))) (kept .if1 .came) in
+    let masks : kept .if1 .masks ≡ set (a .self .masks) (sender s - 1) (maskAt (a .n) s) =
+    ⊎-elim (λ w. w .2 ∙ ap₂ (set (a .self .masks)) at (w .1 .ensures)) (λ w. w .1 ∙ sym (set-out (a .self .masks) (sender s - 1) (maskAt (a .n) s) (omega arith))) (kept .if1 .came) in
     rw (holders, masks)
 
 pub with-spec : {M : Type 1} → statement M
@@ -66,8 +65,7 @@ with-spec =
     byte-requires
     predecessor-requires
     cast-at
-    number-requires
-    cast-masks
+    mask-requires
     mul-masks
     array-write-masks
     insert-requires

@@ -7,6 +7,7 @@ use mathlib.Core.Bool.{false}
 use lib.ListN.{length}
 use Rattle.lists.specs.CallLaws.{fails}
 use Rattle.sets.specs.Masks.{has}
+use Rattle.parameters.specs.Definitions.{mostParties}
 use Rattle.dealing.specs.Definitions.{mayBlame}
 use Rattle.dealing.proofs.Blames.{blame-none, blame-past}
 use Rattle.dealing.proofs.Dealings.may_blame.Statement.{statement}
@@ -21,7 +22,7 @@ returns c =
 returns-2 : tie.Need-returns-2
 returns-2 c =
     let a = c .before .before .args in
-    let long : length (a .t1 .wrong) ≡ 32 = search needs in
+    let long : length (a .t1 .wrong) ≡ mostParties = search needs in
     sym (blame-past (a .t1) (a .j) (a .i) (omega arith))
 
 has-requires : tie.Need-has-requires

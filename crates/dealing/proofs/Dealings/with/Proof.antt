@@ -8,7 +8,7 @@ use lib.ListN.{set}
 use Rattle.lists.specs.Stores.{stored}
 use Rattle.sets.specs.Masks.{insert}
 use Rattle.field.specs.Definitions.{element}
-use Rattle.parameters.specs.Definitions.{quorum}
+use Rattle.parameters.specs.Definitions.{stride, quorum}
 use Rattle.records.specs.Bytes.{word, sender}
 use Rattle.parameters.specs.ParameterLaws.{bounds-of}
 use Rattle.arrays.specs.Arrays.{base}
@@ -68,7 +68,7 @@ returns c =
     let at : place .predecessor .result ≡ sender s - 1 = place .predecessor .ensures ∙ ap (λ (i : ℕ). i - 1) party in
     let small = bounds-of (a .setup .n) (a .setup .t) (a .setup .a) (start .pre .0) .n-max in
     let dealers = c .insert .ensures ∙ ap (insert (a .self .dealers)) party in
-    let commitments : loads .load-commitments .result ≡ stored (a .self .commitments) ((sender s - 1) * 32) (quorum (a .setup .t) (a .setup .a)) (λ v. element (word s 4 v)) =
+    let commitments : loads .load-commitments .result ≡ stored (a .self .commitments) ((sender s - 1) * stride) (quorum (a .setup .t) (a .setup .a)) (λ v. element (word s 4 v)) =
     loads .load-commitments .ensures ∙ rw (at, loads .before .quorum .ensures) in
     let wrong : kept .if1 .wrong ≡ set (a .self .wrong) (sender s - 1) (wrongShares (a .setup) s) =
     ⊎-elim (λ w. w .2 ∙ ap₂ (set (a .self .wrong)) at (w .1 .ensures)) (λ w. absurd (omega arith)) (kept .if1 .came) in

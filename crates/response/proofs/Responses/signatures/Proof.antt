@@ -8,7 +8,7 @@ use Rattle.lists.specs.Stores.{stored}
 use Rattle.field.specs.declared.Scalar.{Scalar}
 use Rattle.field.specs.Definitions.{plus}
 use Rattle.rows.specs.Definitions.{basisOf}
-use Rattle.parameters.specs.Definitions.{batch}
+use Rattle.parameters.specs.Definitions.{mostParties, cells, batch}
 use Rattle.parameters.specs.ParameterLaws.{bounds-of, key-max, batch-max, cells-max}
 use Rattle.arrays.specs.Arrays.{memberPoints}
 use Rattle.dealing.specs.declared.Setup.{Setup}
@@ -24,13 +24,13 @@ cell setup shift p x = shiftedPhiOf (setup .n) shift p (x / setup .a + 1) (x % s
 
 abbrev Inv-loop : tie.InvT-loop
 Inv-loop self setup shift a basis signatures₀ count x₀ signatures x =
-    (basis ≡ basisOf (memberPoints (setup .n) (self .responders))) × (x ≤ count) × (0 < a) × (a ≤ 31) × (count ≤ 30 * a) × (count ≤ 512) × (signatures ≡ stored signatures₀ 0 x (cell setup shift self))
+    (basis ≡ basisOf (memberPoints (setup .n) (self .responders))) × (x ≤ count) × (0 < a) × (a ≤ mostParties) × (count ≤ mostParties * a) × (count ≤ cells) × (signatures ≡ stored signatures₀ 0 x (cell setup shift self))
 
 abbrev μ-loop : tie.MeasureT-loop
 μ-loop self setup shift a basis signatures₀ count x₀ signatures x = count - x
 
--- u is at most 30
-few : (c : tie.In-loop Inv-loop μ-loop) → c .before .loop .x / c .before .before .before .before .before .args .setup .a < 30
+-- u is at most the number of parties
+few : (c : tie.In-loop Inv-loop μ-loop) → c .before .loop .x / c .before .before .before .before .before .args .setup .a < mostParties
 few c = div-lt-iff-lt-mul (c .before .loop .inv .2) .1 (omega arith)
 
 member-points-requires : tie.Need-member-points-requires Inv-loop μ-loop
@@ -59,7 +59,7 @@ loop-holds c =
     let basis = c .before in
     let start = basis .before .before in
     let bounds = bounds-of _ _ _ (start .pre) in
-    let rows : start .args .setup .a * c .batch .result ≤ start .args .setup .a * 30 = rw (c .batch .ensures) (mul-le-mul (le-refl _) (batch-max bounds)) in
+    let rows : start .args .setup .a * c .batch .result ≤ start .args .setup .a * mostParties = mul-le-mul (le-refl _) (omega (arith, c .batch .ensures, batch-max bounds)) in
     (basis .basis .ensures ∙ ap basisOf (basis .before .member-points .ensures), omega arith, bounds .a-pos, omega (arith, key-max bounds), omega arith, rw (c .batch .ensures) (cells-max bounds), refl)
 
 cast-u : tie.Need-cast-u Inv-loop μ-loop
