@@ -28,15 +28,21 @@ sigWord = 115 ∷ 105 ∷ 103 ∷ []
 abbrev pub endWord : List ℕ
 endWord = 101 ∷ 110 ∷ 100 ∷ []
 
--- the most bytes of a line `sig u k R φ`, of all such lines, and of all that a page says of its run
+-- the most bytes of a set's line, of a line `sig u k R φ`, of all such lines, of the last line, and of all that a page says of its run
+abbrev pub mostSet : ℕ
+mostSet = 11 * mostParties + 7
+
 abbrev pub mostLine : ℕ
 mostLine = 48
 
 abbrev pub mostLines : ℕ
 mostLines = mostLine * cells
 
+abbrev pub mostEnd : ℕ
+mostEnd = 15
+
 abbrev pub mostClosing : ℕ
-mostClosing = mostLines + 33 * mostParties + 35
+mostClosing = 3 * mostSet + mostLines + mostEnd
 
 -- the line `sig u k R φ`
 abbrev pub sigLine : ℕ → ℕ → Element → Scalar → List ℕ

@@ -14,6 +14,7 @@ use Rattle.lists.specs.Tests.{pick}
 use Rattle.lists.specs.TestLaws.{pick-case}
 use Rattle.records.specs.Bytes.{byteAt}
 use Rattle.records.specs.Tags.{Tag, SU, DE, VE, CH, CS, RE, unknown, tagOf, setupLength, dealingLength, complaintLength, challengesLength, shiftedLength, responseLength}
+use Rattle.records.specs.RecordLaws.{width-least}
 use Rattle.parameters.specs.ParameterLaws.{Bounds, quorum-pos, batch-pos}
 use Rattle.text.specs.Lines.{line}
 use Rattle.text.specs.LineLaws.{line-max}
@@ -37,7 +38,7 @@ unfolding lengthAt setupLength dealingLength complaintLength challengesLength sh
 least-at SU r s h =
     pick-case (λ (n : ℕ). 1 ≤ n → 8 ≤ n) (leb 6 (length s)) (setupLength (byteAt s 3)) 0 (λ e p. omega arith) (λ e p. absurd (omega arith))
 least-at DE r s h = past-setup r h (dealingLength (r .setup .n) (r .setup .t) (r .setup .a)) (λ b. omega (arith, quorum-pos b))
-least-at VE r s h = past-setup r h (complaintLength (r .setup .n)) (λ b. omega arith)
+least-at VE r s h = past-setup r h (complaintLength (r .setup .n)) (λ b. omega (arith, width-least (r .setup .n)))
 least-at CH r s h = past-setup r h (challengesLength (r .setup .n) (r .setup .t) (r .setup .a)) (λ b. omega (arith, mul-le-mul (b .a-pos) (batch-pos b)))
 least-at CS r s h = past-setup r h _ (λ b. omega (arith, mul-le-mul (b .a-pos) (batch-pos b)))
 least-at RE r s h = past-setup r h (responseLength (r .setup .n) (r .setup .t)) (λ b. omega (arith, batch-pos b))

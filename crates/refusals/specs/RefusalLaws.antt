@@ -1,6 +1,7 @@
 -- What a record that is not refused tells, and the converses. Assumes nothing.
 use mathlib.Core.Path.{_≡_, refl}
-use mathlib.Core.Bool.{true, and-eq-true-iff}
+use mathlib.Core.Logic.{_↔_}
+use mathlib.Core.Bool.{true, false, and-eq-true-iff}
 use mathlib.Core.List.{List}
 use Prim.Native.Nat.{ℕ, _^_, _≤_, _<_}
 use native.Mathlib.Omega.{arith}
@@ -8,6 +9,9 @@ use lib.ListN.{length}
 use lib.Dec.{leb}
 use borrow.Author.Tests.{le-leb, ltb-true, lt-ltb, eqb-true, eq-eqb}
 use Rattle.lists.specs.TestLaws.{and-right, all-at, all-make, require-pass, passed, or-next, next-pass}
+use Rattle.sets.specs.Masks.{has}
+use Rattle.sets.specs.MaskLaws.{has-above}
+use Rattle.sets.specs.WidthLaws.{width-of}
 use Rattle.field.specs.Definitions.{isScalar, isElement}
 use Rattle.parameters.specs.Definitions.{quorum, batch}
 use Rattle.records.specs.Bytes.{byteAt, word, sender}
@@ -90,6 +94,11 @@ dealing-passes n t a s h =
     (require-pass _ _ _ (all-make _ _ (h .scalars)) refl))
 
 -- ---- a complaint row that is not refused
+
+-- a mask of w bits has no bit above bit n - 1 exactly where no party above n is in it
+pub fits-is : (w n m : ℕ) → m < 2 ^ w → (maskFits n m ≡ true) ↔ ((i : ℕ) → n < i → i ≤ w → has m i ≡ false)
+unfolding maskFits
+fits-is w n m l = (λ e i p q. has-above m n i (ltb-true _ _ e) p, λ h. lt-ltb _ _ (width-of w n m l h))
 
 pub record PassedComplaint (n : ℕ) (s : List ℕ) : Type 0 where
   pub sender-pos : 0 < sender s

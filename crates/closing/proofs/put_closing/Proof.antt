@@ -15,7 +15,7 @@ use Rattle.text.specs.TextLaws.{wrote-none, wrote-length, wrote-append}
 use Rattle.text.specs.LineLaws.{set-place}
 use Rattle.run.specs.Runs.{stageOf}
 use Rattle.run.specs.RunLaws.{stage-live}
-use Rattle.closing.specs.Closing.{signatureLines, closing}
+use Rattle.closing.specs.Closing.{mostSet, mostLines, signatureLines, closing}
 use Rattle.closing.specs.LengthLaws.{signed-max}
 use Rattle.closing.proofs.put_closing.Statement.{statement}
 use Rattle.closing.proofs.put_closing.Tie as tie
@@ -37,10 +37,10 @@ put-set-requires c κs =
 slice-aggregate-put-set-2 : tie.Need-slice-aggregate-put-set-2
 slice-aggregate-put-set-2 c = refl
 
--- after each set the buffer is as long as it was, and the place has gone on by at most 359
+-- after each set the buffer is as long as it was, and the place has gone on by at most the line of a set
 first-room : (c : tie.After-put-set) →
     let a = c .before .before .before .before .before .before .args in
-    (length (c .put-set .last .0) ≡ length (a .out .now)) × (c .put-set .result ≤ a .at + 359)
+    (length (c .put-set .last .0) ≡ length (a .out .now)) × (c .put-set .result ≤ a .at + mostSet)
 first-room c =
     let s = c .before .before .before .before .before .before in (
       c .put-set .kept .0,
@@ -58,7 +58,7 @@ slice-aggregate-put-set-3 c = refl
 
 second-room : (c : tie.After-put-set2) →
     let a = c .before .before .before .before .before .before .before .before .before .before .before .args in
-    (length (c .put-set2 .last .0) ≡ length (a .out .now)) × (c .put-set2 .result ≤ a .at + 718)
+    (length (c .put-set2 .last .0) ≡ length (a .out .now)) × (c .put-set2 .result ≤ a .at + 2 * mostSet)
 second-room c =
     let p = c .before .before .before .before .before in
     let s = p .before .before .before .before .before .before in (
@@ -74,7 +74,7 @@ put-set-requires-3 c κs =
 
 third-room : (c : tie.After-put-set3) →
     let a = c .before .before .before .before .before .before .before .before .before .before .before .before .before .before .before .before .args in
-    (length (c .put-set3 .last .0) ≡ length (a .out .now)) × (c .put-set3 .result ≤ a .at + 1077)
+    (length (c .put-set3 .last .0) ≡ length (a .out .now)) × (c .put-set3 .result ≤ a .at + 3 * mostSet)
 third-room c =
     let p = c .before .before .before .before .before in
     let s = p .before .before .before .before .before .before .before .before .before .before .before in (
@@ -109,7 +109,7 @@ signed c =
 -- and there is room for the last line
 last-room : (c : tie.Joined1) →
     let a = c .before .before .before .before .before .before .before .before .before .before .before .before .before .before .before .before .before .before .before .args in
-    (length (c .if1 .out) ≡ length (a .out .now)) × (c .if1 .next ≤ a .at + 25653)
+    (length (c .if1 .out) ≡ length (a .out .now)) × (c .if1 .next ≤ a .at + 3 * mostSet + mostLines)
 last-room c =
     let p = c .before .before .before in
     let r = p .before .before .before .before .before .before .before .before .before .before .before .before .before .before .before .before .args .run in (

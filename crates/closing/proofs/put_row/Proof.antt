@@ -14,6 +14,7 @@ use Rattle.protocol.specs.Transcript.{nonce, shiftedNonce}
 use Rattle.combination.specs.PowerLaws.{combined-powers}
 use Rattle.run.specs.Runs.{transcriptOf}
 use Rattle.run.specs.RunLaws.{formed-of}
+use Rattle.closing.specs.Closing.{mostLine}
 use Rattle.closing.specs.SignatureLaws.{rowLines, line-is, row-next, row-max, nonce-is, shifted-is, kept-at, kept-below}
 use Rattle.closing.proofs.put_row.Statement.{statement}
 use Rattle.closing.proofs.put_row.Tie as tie
@@ -115,7 +116,7 @@ element-copy-out-phi c = placed (c .before .before .before .before)
 add-put-signature : tie.Need-add-put-signature Inv-loop μ-loop
 add-put-signature c = omega (arith, slots (c .before .before .before .before .before .before))
 
--- the buffer is as long as it was, and the place has gone on by at most 48 for each slot
+-- the buffer is as long as it was, and the place has gone on by at most one line for each slot
 room : (c : tie.At-loop Inv-loop μ-loop) →
     let a = start c .args in
     (length (c .loop .out) ≡ length (a .out .now)) × (c .loop .next ≤ a .at + mostLine * c .loop .k)

@@ -42,7 +42,7 @@ rows c =
 add-put-row : tie.Need-add-put-row Inv-loop μ-loop
 add-put-row c = omega (arith, rows (c .before))
 
--- the buffer is as long as it was, and the place has gone on by at most 48 for each signature
+-- the buffer is as long as it was, and the place has gone on by at most one line for each signature
 room : (c : tie.At-loop Inv-loop μ-loop) →
     let a = c .before .before .before .before .args in
     (length (c .loop .out) ≡ length (a .out .now)) × (c .loop .next ≤ a .at + mostLine * (c .loop .u * a .run .setup .a))
