@@ -100,7 +100,7 @@ complaint-accepted r j room e new =
       sender-pos = fits .party-pos;
       sender-max = fits .party-max;
       mask = rw mask (maskOf-lt n (mayBlame (r .dealings) j));
-      long = ap (λ (k : ℕ). 4 + k) (length-bytes (maskWidth n) _);
+      long = omega (arith, length-bytes (maskWidth n) (maskOf n (mayBlame (r .dealings) j)));
       reserved = refl;
     }))
     (require-pass _ _ _ (ap not new)
