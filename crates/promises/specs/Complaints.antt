@@ -15,7 +15,7 @@ use Rattle.sets.specs.Masks.{has, maskOf}
 use Rattle.sets.specs.MaskLaws.{has-none, has-maskOf, has-above, has-le, maskOf-lt}
 use Rattle.field.specs.Definitions.{scalar, element}
 use Rattle.records.specs.Bytes.{word, sender}
-use Rattle.records.specs.Tags.{Tag, SU, DE, VE, CH, CS, RE, unknown, tagOf, sharesFrom}
+use Rattle.records.specs.Tags.{Tag, SU, DE, VE, CH, CS, RE, unknown, tagOf, sharesFrom, maskAt}
 use Rattle.refusals.specs.Refusals.{setupRefusal, headRefusal, dealingRefusal, complaintRefusal, scalarsRefusal, challengesRefusal, shiftedRefusal, responseRefusal}
 use Rattle.refusals.specs.RefusalLaws.{complaint-passed}
 use Rattle.protocol.specs.Transcript.{validShare}

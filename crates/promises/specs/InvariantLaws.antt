@@ -16,7 +16,7 @@ use Rattle.field.specs.Definitions.{scalar, element, IsElement, identity}
 use Rattle.protocol.specs.Transcript.{Transcript, passes}
 use Rattle.parameters.specs.Definitions.{mostParties, places, cells, quorum, batch}
 use Rattle.records.specs.Bytes.{byteAt, word, sender}
-use Rattle.records.specs.Tags.{Tag, SU, DE, VE, CH, CS, RE}
+use Rattle.records.specs.Tags.{Tag, SU, DE, VE, CH, CS, RE, maskAt}
 use Rattle.refusals.specs.Refusals.{setupRefusal, dealingRefusal}
 use Rattle.parameters.specs.ParameterLaws.{Bounds, key-max}
 use Rattle.refusals.specs.RefusalLaws.{setup-passed, dealing-passed}

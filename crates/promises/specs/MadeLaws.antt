@@ -21,7 +21,7 @@ use Rattle.run.specs.Runs.{wellFormed, stageOf, transcriptOf}
 use Rattle.dealing.specs.Definitions.{setupOf, keyIn}
 use Rattle.run.specs.Steps.{after}
 use Rattle.promises.specs.SenderLaws.{has-pos}
-use Rattle.promises.specs.Lists.{accepted, ofTag, first, dealer, hold, bad, qualified, read, maskFrom, challengeBy}
+use Rattle.promises.specs.Lists.{accepted, ofTag, first, parties, dealer, hold, bad, qualified, read, maskFrom, challengeBy}
 use Rattle.promises.specs.ListLaws.{some-all}
 use Rattle.promises.specs.PlaceLaws.{cell-lt}
 use Rattle.complaint.specs.Definitions.{blamedBy, maskBy}
@@ -54,7 +54,14 @@ module _ (l : List (List ℕ)) (p : 0 < after l .stage) where
         commitments = λ i v p k e. commitment-element (after l .setup) (after l .dealings) _ (made-live .dealings) i v p (and-left (has (after l .dealings .dealers) i) _ e);
       }
 
+  setup-same : {A : Type 0} (f : Setup → A) → f (after l .setup) ≡ f (setupOf (first (ofTag SU (accepted l))))
+  setup-same f = ap f (made-live .setup .setup-is)
+
   -- ---- the sets
+
+  made-parties : after l .setup .n ≡ parties (accepted l)
+  unfolding setupOf
+  made-parties = setup-same (λ z. z .n)
 
   pub made-hold : (j : ℕ) → has (after l .complaints .holders) j ≡ hold (accepted l) j
   unfolding hold
@@ -63,24 +70,22 @@ module _ (l : List (List ℕ)) (p : 0 < after l .stage) where
   -- the run keeps the mask of each holder's accepted VE, read from its bytes
   pub made-masks : (j : ℕ) → maskBy (after l .complaints) j ≡ maskFrom (accepted l) j
   unfolding maskBy maskFrom
-  made-masks j = rw (made-hold j) (pick-same (hold (accepted l) j) 0 (λ e. made-live .complaints .masks-are j (has-pos _ j (made-hold j ∙ e)) (sym (made-live .complaints .senders .mask-is j) ∙ made-hold j ∙ e)))
+  made-masks j = rw (made-hold j, ← made-parties) (pick-same (hold (accepted l) j) 0 (λ e. made-live .complaints .masks-are j (has-pos _ j (made-hold j ∙ e)) (sym (made-live .complaints .senders .mask-is j) ∙ made-hold j ∙ e)))
 
   pub made-bad : (i : ℕ) → has (blamedBy (after l .setup .n) (after l .complaints)) i ≡ bad (accepted l) i
   unfolding bad dealer
   made-bad i =
       let blamed = made-live .complaints .blamed-is i in
-      within (has (blamedBy (after l .setup .n) (after l .complaints)) i) (has (after l .dealings .dealers) i)
+      rw (← made-parties)
+      (within (has (blamedBy (after l .setup .n) (after l .complaints)) i) (has (after l .dealings .dealers) i)
       (λ e. let w = some-all _ _ _ (made-live .complaints .founded) (sym blamed ∙ e) in w .2 i (w .1))
-      ∙ ap₂ _&&_ (made-live .dealings .senders .mask-is i) blamed
+      ∙ ap₂ _&&_ (made-live .dealings .senders .mask-is i) blamed)
 
   pub made-qual : (i : ℕ) → (has (after l .dealings .dealers) i && not (has (blamedBy (after l .setup .n) (after l .complaints)) i)) ≡ qualified (accepted l) i
   unfolding qualified dealer
   made-qual i = ap₂ (λ (d b : Bool). d && not b) (made-live .dealings .senders .mask-is i) (made-bad i)
 
   -- ---- the public values
-
-  setup-same : {A : Type 0} (f : Setup → A) → f (after l .setup) ≡ f (setupOf (first (ofTag SU (accepted l))))
-  setup-same f = ap f (made-live .setup .setup-is)
 
   pub made-alike : Alike (transcriptOf (after l)) (read (accepted l))
   unfolding transcriptOf transcript keyIn read setupOf
