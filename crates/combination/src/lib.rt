@@ -31,8 +31,14 @@ pub fn raised(list: [Element; PLACES], n: u8) -> [Element; PLACES]
     };
     let mut next = list;
     for at in 0..count {
-        let i = (at / STRIDE + 1) as u32;
-        next[at] = list[at].power(i);
+        let value = list[at];
+        // a power of 1 is 1, and most places have no value
+        let power = if value.same(Element::ONE) {
+            value
+        } else {
+            value.power((at / STRIDE + 1) as u32)
+        };
+        next[at] = power;
     }
     next
 }

@@ -14,8 +14,8 @@ use Rattle.stages.specs.declared.Handler.{Handler}
 use Rattle.stages.specs.declared.Handler.the-variants.{TakeSetup, TakeDealing, TakeComplaint, TakeChallenges, TakeShifted, TakeResponse, Refuse}
 use Rattle.run.specs.Runs.{wellFormed, stageOf}
 use Rattle.run.specs.RunLaws.{stage-live}
-use Rattle.run.specs.Steps.{handled, stepOf, untaken}
-use Rattle.stages.specs.Definitions.{takenAt, atStage, handlerAt, refusalOf}
+use Rattle.run.specs.Steps.{handled, stepOf, untakenBy, untaken}
+use Rattle.stages.specs.Definitions.{takenAt, atStage, handlerAt}
 
 -- taken past stage 0
 abbrev pub Past : Handler → Type 0
@@ -52,9 +52,9 @@ module _ (r : Run) (s : List ℕ) {h : Handler} {c stage : ℕ} (by : h ≡ hand
   unfolding stepOf
   step-by = ap (λ (a : Handler). handled a r s) handler-is
 
-  pub untaken-by : refusalOf h ≡ untaken r s
+  pub untaken-by : untakenBy h r s ≡ untaken r s
   unfolding untaken
-  untaken-by = ap refusalOf handler-is
+  untaken-by = ap (λ (a : Handler). untakenBy a r s) handler-is
 
   pub formed-by : Past h → wellFormed r ≡ true
   formed-by p =

@@ -1,10 +1,12 @@
--- A refusal leaves the run as it was, and one by tag and stage alone is the step's. Assumes nothing.
+-- A refusal leaves the run as it was, and one that is found without the run's lists is the step's. Assumes nothing.
 use mathlib.Core.Path.{_≡_, refl}
 use mathlib.Core.Bool.{Bool, true, false}
 use mathlib.Core.List.{List}
-use Prim.Native.Nat.{ℕ}
+use Prim.Native.Nat.{ℕ, _<_}
+use native.Mathlib.Omega.{arith}
 use lib.Dec.{eqb}
-use Rattle.lists.specs.Tests.{pick}
+use borrow.Author.Tests.{ne-eqb}
+use Rattle.lists.specs.Tests.{pick, require, orNext}
 use Rattle.records.specs.Tags.{tagOf}
 use Rattle.refusals.specs.Refusals.{setupRefusal, challengesRefusal, shiftedRefusal}
 use Rattle.dealing.specs.Definitions.{dealingNumber}
@@ -14,8 +16,8 @@ use Rattle.run.specs.declared.Run.{Run}
 use Rattle.stages.specs.declared.Handler.{Handler}
 use Rattle.stages.specs.declared.Handler.the-variants.{TakeSetup, TakeDealing, TakeComplaint, TakeChallenges, TakeShifted, TakeResponse, Refuse}
 use Rattle.run.specs.Runs.{stageOf}
-use Rattle.run.specs.Steps.{afterSetup, afterDealing, afterComplaint, afterChallenges, afterShifted, afterResponse, refused, answered, handled, stepOf, untaken}
-use Rattle.stages.specs.Definitions.{refusalOf, handlerAt}
+use Rattle.run.specs.Steps.{afterSetup, afterDealing, afterComplaint, afterChallenges, afterShifted, afterResponse, refused, answered, handled, stepOf, untakenBy, untaken}
+use Rattle.stages.specs.Definitions.{handlerAt}
 
 -- a record at its stage that is refused
 answered-refused : (r : Run) (k : ℕ) (next : Run) → (answered r k next .number ≡ 0 → ⊥) → answered r k next .run ≡ r
@@ -38,15 +40,42 @@ refusal-keeps r s = go (handlerAt (tagOf s) (stageOf r))
     go TakeResponse n = answered-refused r (responseNumber (r .setup) (r .dealings) (r .complaints) (r .challenges) (r .responses) s) (afterResponse r s) n
     go (Refuse k) n = refl
 
+-- a refusal that is found is the one that is answered
+answered-number : (r : Run) {k m : ℕ} (next : Run) → (k ≡ 0 → ⊥) → m ≡ k → answered r m next ≡ refused r k
+answered-number r {k} next n e = rw (e, ne-eqb k 0 n)
+
+-- a refusal found before the last tests are asked is the whole one
+stops : (k : ℕ) (b : Bool) (m rest : ℕ) → (orNext k (require b m 0) ≡ 0 → ⊥) → orNext k (require b m rest) ≡ orNext k (require b m 0)
+unfolding orNext require
+stops k b m rest n = go (eqb k 0) b n
+  where
+    go : (d b : Bool) → (pick d (require b m 0) k ≡ 0 → ⊥) → pick d (require b m rest) k ≡ pick d (require b m 0) k
+    go true true n = absurd (n refl)
+    go true false n = refl
+    go false b n = refl
+
+-- and so where two are asked
+stops-twice : (k : ℕ) (b c : Bool) (m₁ m₂ rest : ℕ) → 0 < m₁ → (orNext (orNext k (require b m₁ 0)) (require c m₂ 0) ≡ 0 → ⊥)
+    → orNext k (require b m₁ (require c m₂ rest)) ≡ orNext (orNext k (require b m₁ 0)) (require c m₂ 0)
+unfolding orNext require
+stops-twice k b c m₁ m₂ rest p n = go (eqb k 0) refl b c n
+  where
+    go : (d : Bool) → eqb k 0 ≡ d → (b c : Bool) → (orNext (pick d (require b m₁ 0) k) (require c m₂ 0) ≡ 0 → ⊥)
+        → pick d (require b m₁ (require c m₂ rest)) k ≡ orNext (pick d (require b m₁ 0) k) (require c m₂ 0)
+    go true e true true n = absurd (n refl)
+    go true e true false n = refl
+    go true e false c n = rw (ne-eqb m₁ 0 (λ z. omega arith))
+    go false e b c n = rw e
+
 pub untaken-refused : (r : Run) (s : List ℕ) → (untaken r s ≡ 0 → ⊥) → stepOf r s ≡ refused r (untaken r s)
-unfolding untaken stepOf handled refusalOf
+unfolding untaken stepOf handled untakenBy dealingNumber complaintNumber responseNumber
 untaken-refused r s = go (handlerAt (tagOf s) (stageOf r))
   where
-    go : (h : Handler) → (refusalOf h ≡ 0 → ⊥) → handled h r s ≡ refused r (refusalOf h)
-    go TakeSetup n = absurd (n refl)
-    go TakeDealing n = absurd (n refl)
-    go TakeComplaint n = absurd (n refl)
-    go TakeChallenges n = absurd (n refl)
-    go TakeShifted n = absurd (n refl)
-    go TakeResponse n = absurd (n refl)
+    go : (h : Handler) → (untakenBy h r s ≡ 0 → ⊥) → handled h r s ≡ refused r (untakenBy h r s)
+    go TakeSetup n = answered-number r _ n refl
+    go TakeDealing n = answered-number r _ n refl
+    go TakeComplaint n = answered-number r _ n (stops _ _ 12 _ n)
+    go TakeChallenges n = answered-number r _ n refl
+    go TakeShifted n = answered-number r _ n refl
+    go TakeResponse n = answered-number r _ n (stops-twice _ _ _ 12 14 _ (omega arith) n)
     go (Refuse k) n = refl

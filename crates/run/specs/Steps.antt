@@ -1,16 +1,19 @@
 -- What a record does to a run (document 01, "The run", "From the input", "From the state"; CS is of document 02, request 2.1).
 use Prim.Native.Nat.{ℕ, _+_, _-_}
+use mathlib.Core.Bool.{not}
 use mathlib.Core.List.{List, [], _∷_}
 use lib.Dec.{eqb}
-use Rattle.lists.specs.Tests.{pick}
+use Rattle.lists.specs.Tests.{pick, require, orNext}
+use Rattle.sets.specs.Masks.{has}
 use Rattle.parameters.specs.Definitions.{quorum}
+use Rattle.records.specs.Bytes.{sender}
 use Rattle.records.specs.Tags.{tagOf}
-use Rattle.refusals.specs.Refusals.{setupRefusal, challengesRefusal, shiftedRefusal}
+use Rattle.refusals.specs.Refusals.{setupRefusal, dealingRefusal, complaintRefusal, challengesRefusal, shiftedRefusal, responseRefusal}
 use Rattle.dealing.specs.Definitions.{setupOf, dealingNumber, withDealing}
 use Rattle.complaint.specs.Definitions.{complaintNumber, withComplaint, complaintStage}
 use Rattle.response.specs.Definitions.{responseNumber, withResponse, signaturesOf}
 use Rattle.challenge.specs.Definitions.{withChallenges, withShifted}
-use Rattle.stages.specs.Definitions.{handlerAt, refusalOf}
+use Rattle.stages.specs.Definitions.{handlerAt}
 use Rattle.run.specs.declared.Run.{Run}
 use Rattle.run.specs.declared.Reply.{Reply}
 use Rattle.stages.specs.declared.Handler.{Handler}
@@ -83,9 +86,20 @@ handled (Refuse k) r s = refused r k
 unfoldable pub stepOf : Run → List ℕ → Reply
 stepOf r s = handled (handlerAt (tagOf s) (stageOf r)) r s
 
--- the refusal by tag and stage alone, or 0
+-- a refusal that needs none of the run's lists, or 0: every number but 13 and 15
+unfoldable pub untakenBy : Handler → Run → List ℕ → ℕ
+untakenBy TakeSetup r s = setupRefusal s
+untakenBy TakeDealing r s = orNext (dealingRefusal (r .setup .n) (r .setup .t) (r .setup .a) s) (require (not (has (r .dealings .dealers) (sender s))) 12 0)
+untakenBy TakeComplaint r s = orNext (complaintRefusal (r .setup .n) s) (require (not (has (r .complaints .holders) (sender s))) 12 0)
+untakenBy TakeChallenges r s = challengesRefusal (r .setup .n) (r .setup .t) (r .setup .a) s
+untakenBy TakeShifted r s = shiftedRefusal (r .setup .n) (r .setup .t) (r .setup .a) s
+untakenBy TakeResponse r s =
+    orNext (orNext (responseRefusal (r .setup .n) (r .setup .t) s) (require (not (has (r .responses .responders) (sender s))) 12 0))
+    (require (has (r .complaints .holders) (sender s)) 14 0)
+untakenBy (Refuse k) r s = k
+
 unfoldable pub untaken : Run → List ℕ → ℕ
-untaken r s = refusalOf (handlerAt (tagOf s) (stageOf r))
+untaken r s = untakenBy (handlerAt (tagOf s) (stageOf r)) r s
 
 -- the run after a list of records: each is given to the run returned for the one before it, after a refusal too
 unfoldable pub afterFrom : Run → List (List ℕ) → Run

@@ -2,6 +2,7 @@
 ghost use mathlib.Core.Path.{_≡_};
 ghost use mathlib.Core.Bool.{true};
 ghost use Prim.Native.Nat.{_+_};
+ghost use Rattle.lists.specs.Tests.{require, orNext};
 ghost use Rattle.parameters.specs.Definitions.{inBounds};
 ghost use Rattle.refusals.specs.Refusals.{setupRefusal, challengesRefusal, shiftedRefusal};
 ghost use Rattle.dealing.specs.Definitions.{dealingNumber};
@@ -36,6 +37,16 @@ pub struct Run {
 pub struct Reply {
     pub run: Run,
     pub number: u8,
+}
+
+// A refusal's number, or the next one unless a test has passed, or 0.
+fn or_next(number: u8, passed: bool, next: u8) -> u8
+    ensures { λ r. ⌜ r ≡ orNext number (require passed next 0) ⌝ }
+{
+    if number != 0 {
+        return number;
+    }
+    if passed { 0 } else { next }
 }
 
 impl Run {
@@ -273,18 +284,32 @@ impl Run {
         }
     }
 
-    // The refusal by tag and stage alone: 1 for an unknown tag, 11 for one that the stage does not take, else 0.
+    // A refusal that needs none of the run's lists, so that the run is not copied: every number but 13 and 15. Else 0.
     pub fn untaken(self, bytes: &[u8]) -> u8
         ensures { λ r. ⌜ r ≡ untaken self (now (bytes .entry)) ⌝ }
     {
+        let n = self.setup.n;
+        let t = self.setup.t;
+        let a = self.setup.a;
+        let j = records::byte(bytes, 2);
         let handler = stages::taken_by(records::tag(bytes), self.stage_of());
         match handler {
-            Handler::TakeSetup => 0,
-            Handler::TakeDealing => 0,
-            Handler::TakeComplaint => 0,
-            Handler::TakeChallenges => 0,
-            Handler::TakeShifted => 0,
-            Handler::TakeResponse => 0,
+            Handler::TakeSetup => refusals::setup_refusal(bytes),
+            Handler::TakeDealing => {
+                let number = refusals::dealing_refusal(n, t, a, bytes);
+                or_next(number, !sets::has(self.dealings.dealers, j), 12)
+            }
+            Handler::TakeComplaint => {
+                let number = refusals::complaint_refusal(n, bytes);
+                or_next(number, !sets::has(self.complaints.holders, j), 12)
+            }
+            Handler::TakeChallenges => refusals::challenges_refusal(n, t, a, bytes),
+            Handler::TakeShifted => refusals::shifted_refusal(n, t, a, bytes),
+            Handler::TakeResponse => {
+                let number = refusals::response_refusal(n, t, bytes);
+                let sent = or_next(number, !sets::has(self.responses.responders, j), 12);
+                or_next(sent, sets::has(self.complaints.holders, j), 14)
+            }
             Handler::Refuse(number) => number,
         }
     }

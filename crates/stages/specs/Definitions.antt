@@ -29,13 +29,3 @@ handlerAt CH stage = atStage CH stage TakeChallenges
 handlerAt CS stage = atStage CS stage TakeShifted
 handlerAt RE stage = atStage RE stage TakeResponse
 handlerAt unknown stage = Refuse 1
-
--- the refusal of a handler, and 0 where it takes the record
-unfoldable pub refusalOf : Handler → ℕ
-refusalOf (Refuse k) = k
-refusalOf TakeSetup = 0
-refusalOf TakeDealing = 0
-refusalOf TakeComplaint = 0
-refusalOf TakeChallenges = 0
-refusalOf TakeShifted = 0
-refusalOf TakeResponse = 0

@@ -1,4 +1,4 @@
--- `raised` meets its contract. The loop has stored the powers passed. Assumes nothing.
+-- `raised` meets its contract. The loop has stored the powers passed, those of 1 as they are. Assumes nothing.
 use borrow.Author.Needs.{needs}
 use native.Mathlib.Omega.{arith}
 use mathlib.Core.Logic.{⊎-elim}
@@ -10,6 +10,7 @@ use Rattle.lists.specs.Stores.{stored}
 use Rattle.lists.specs.StoreLaws.{getD-default, stored-first, stored-capped}
 use Rattle.field.specs.declared.Element.{Element}
 use Rattle.field.specs.Definitions.{identity, powered}
+use Rattle.field.specs.ElementLaws.{identity-powered, same-is}
 use Rattle.parameters.specs.Definitions.{stride, places}
 use Rattle.combination.specs.Combination.{raised}
 use Rattle.combination.proofs.raised.Statement.{statement}
@@ -32,17 +33,20 @@ loop-holds : tie.Need-loop-holds Inv-loop μ-loop
 unfolding stored
 loop-holds c = (omega arith, ⊎-elim (λ w. w .1 ∙ omega (arith, w .0 .taken)) (λ w. w .1 ∙ omega (arith, w .0 .left)) (c .if1 .came), search needs, refl)
 
-add-i : tie.Need-add-i Inv-loop μ-loop
-add-i c = search needs
+mul-value : tie.Need-mul-value Inv-loop μ-loop
+mul-value c = search needs
 
-cast-i : tie.Need-cast-i Inv-loop μ-loop
-cast-i c = search needs
+array-copy-out-value : tie.Need-array-copy-out-value Inv-loop μ-loop
+array-copy-out-value c = search needs
 
-mul-power : tie.Need-mul-power Inv-loop μ-loop
-mul-power c = search needs
+same-requires : tie.Need-same-requires Inv-loop μ-loop
+same-requires c κs = search needs
 
-array-copy-out-power : tie.Need-array-copy-out-power Inv-loop μ-loop
-array-copy-out-power c = search needs
+add-power : tie.Need-add-power Inv-loop μ-loop
+add-power c = search needs
+
+cast-power : tie.Need-cast-power Inv-loop μ-loop
+cast-power c = search needs
 
 power-requires : tie.Need-power-requires Inv-loop μ-loop
 power-requires c κs = search needs
@@ -59,14 +63,25 @@ add-at c = search needs
 loop-less : tie.Need-loop-less Inv-loop μ-loop
 loop-less c = search needs
 
+-- a power of 1 is 1
+unmoved : {v : Element} (e : ℕ) → v ≡ identity → v ≡ powered v e
+unmoved e i = i ∙ sym (ap (λ (w : Element). powered w e) i ∙ identity-powered e)
+
 loop-again : tie.Need-loop-again Inv-loop μ-loop
 loop-again c =
-    let list = c .before .before .before .before .before .args .t1 in
-    let l = c .before .before .before .loop in (
+    let s = c .before in
+    let list = s .before .before .before .before .before .args .t1 in
+    let l = s .before .before .before .loop in
+    let value = getD-default list (l .at) _ identity (omega arith) in
+    let power : c .if2 .power ≡ power-at list (l .at) =
+    ⊎-elim
+    (λ w. w .1 ∙ unmoved (l .at / stride + 1) (same-is _ _ (sym (s .same .ensures) ∙ w .0 .taken)) ∙ ap (λ (v : Element). powered v (l .at / stride + 1)) value)
+    (λ w. w .2 ∙ w .1 .ensures ∙ ap (λ (v : Element). powered v (l .at / stride + 1)) value)
+    (c .if2 .came) in (
       omega arith,
       l .inv .1,
       l .inv .2,
-      ap₂ (λ (r : List Element) (x : Element). set r (l .at) x) (l .inv .3) (c .power .ensures ∙ ap (λ (v : Element). powered v (l .at / stride + 1)) (getD-default list (l .at) _ identity (omega arith))) ∙ sym (stored-first list (l .at) (power-at list)),
+      ap₂ (λ (r : List Element) (x : Element). set r (l .at) x) (l .inv .3) power ∙ sym (stored-first list (l .at) (power-at list)),
     )
 
 returns : tie.Need-returns Inv-loop μ-loop
@@ -85,10 +100,11 @@ raised-spec =
     μ-loop
     mul-count
     loop-holds
-    add-i
-    cast-i
-    mul-power
-    array-copy-out-power
+    mul-value
+    array-copy-out-value
+    same-requires
+    add-power
+    cast-power
     power-requires
     mul-next
     array-set-from-next

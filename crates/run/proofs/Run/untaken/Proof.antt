@@ -1,16 +1,23 @@
--- `Run::untaken` meets its contract: 0 for each handler, or the refusal. Assumes nothing.
+-- `Run::untaken` meets its contract: for each handler the refusals that need no list of the run. Assumes nothing.
 use borrow.Author.Needs.{needs}
 use mathlib.Core.Path.{_≡_, sym, ap, _∙_}
 use Rattle.stages.specs.declared.Handler.{Handler}
-use Rattle.run.specs.Steps.{untaken}
-use Rattle.stages.specs.Definitions.{refusalOf}
+use Rattle.run.specs.Steps.{untakenBy, untaken}
 use Rattle.run.proofs.Stages.{untaken-by}
 use Rattle.run.proofs.Run.untaken.Statement.{statement}
 use Rattle.run.proofs.Run.untaken.Tie as tie
 
 -- the answer for a handler, from what the calls answer
-answer : (c : tie.After-taken-by) {h : Handler} → c .taken-by .result ≡ h → refusalOf h ≡ untaken (c .before .before .before .before .args .self) (c .before .before .before .before .args .bytes .now)
-answer c e = ap refusalOf (sym e) ∙ untaken-by _ _ (c .taken-by .ensures) (c .before .before .tag .ensures) (c .before .stage-of .ensures)
+answer : (c : tie.After-taken-by) {h : Handler} → c .taken-by .result ≡ h →
+    let a = c .before .before .before .before .before .args in
+    untakenBy h (a .self) (a .bytes .now) ≡ untaken (a .self) (a .bytes .now)
+answer c e =
+    let a = c .before .before .before .before .before .args in
+    ap (λ (h : Handler). untakenBy h (a .self) (a .bytes .now)) (sym e)
+    ∙ untaken-by (a .self) (a .bytes .now) (c .taken-by .ensures) (c .before .before .tag .ensures) (c .before .stage-of .ensures)
+
+byte-requires : tie.Need-byte-requires
+byte-requires c κs = search needs
 
 tag-requires : tie.Need-tag-requires
 tag-requires c κs = search needs
@@ -24,65 +31,139 @@ taken-by-requires c κs = search needs
 enum-told : tie.Need-enum-told
 enum-told c = search needs
 
+setup-refusal-requires : tie.Need-setup-refusal-requires
+setup-refusal-requires c κs = search needs
+
 enum-told-2 : tie.Need-enum-told-2
 enum-told-2 c = search needs
+
+dealing-refusal-requires : tie.Need-dealing-refusal-requires
+dealing-refusal-requires c κs = search needs
+
+has-requires : tie.Need-has-requires
+has-requires c κs = search needs
+
+or-next-requires : tie.Need-or-next-requires
+or-next-requires c κs = search needs
 
 enum-told-3 : tie.Need-enum-told-3
 enum-told-3 c = search needs
 
+complaint-refusal-requires : tie.Need-complaint-refusal-requires
+complaint-refusal-requires c κs = search needs
+
+has-requires-2 : tie.Need-has-requires-2
+has-requires-2 c κs = search needs
+
+or-next-requires-2 : tie.Need-or-next-requires-2
+or-next-requires-2 c κs = search needs
+
 enum-told-4 : tie.Need-enum-told-4
 enum-told-4 c = search needs
+
+challenges-refusal-requires : tie.Need-challenges-refusal-requires
+challenges-refusal-requires c κs = search needs
 
 enum-told-5 : tie.Need-enum-told-5
 enum-told-5 c = search needs
 
+shifted-refusal-requires : tie.Need-shifted-refusal-requires
+shifted-refusal-requires c κs = search needs
+
 enum-told-6 : tie.Need-enum-told-6
 enum-told-6 c = search needs
+
+response-refusal-requires : tie.Need-response-refusal-requires
+response-refusal-requires c κs = search needs
+
+has-requires-3 : tie.Need-has-requires-3
+has-requires-3 c κs = search needs
+
+or-next-requires-3 : tie.Need-or-next-requires-3
+or-next-requires-3 c κs = search needs
+
+has-requires-4 : tie.Need-has-requires-4
+has-requires-4 c κs = search needs
+
+or-next-requires-4 : tie.Need-or-next-requires-4
+or-next-requires-4 c κs = search needs
 
 enum-known-handler : tie.Need-enum-known-handler
 enum-known-handler c = search needs
 
 returns : tie.Need-returns
-unfolding refusalOf
-returns c = answer (c .before .before) (c .enum-told .given .1)
+unfolding untakenBy
+returns c = c .setup-refusal .ensures ∙ answer (c .before .before .before) (c .before .enum-told .given .1)
 
 returns-2 : tie.Need-returns-2
-unfolding refusalOf
-returns-2 c = answer (c .before .before) (c .enum-told2 .given .1)
+unfolding untakenBy
+returns-2 c =
+    let refusal = c .before .before in
+    let told = refusal .before in
+    let taken = told .before .before in
+    c .or-next .ensures
+    ∙ rw (refusal .dealing-refusal .ensures, c .before .has .ensures, taken .before .before .before .byte .ensures) (answer taken (told .enum-told2 .given .1))
 
 returns-3 : tie.Need-returns-3
-unfolding refusalOf
-returns-3 c = answer (c .before .before) (c .enum-told3 .given .1)
+unfolding untakenBy
+returns-3 c =
+    let refusal = c .before .before in
+    let told = refusal .before in
+    let taken = told .before .before in
+    c .or-next2 .ensures
+    ∙ rw (refusal .complaint-refusal .ensures, c .before .has2 .ensures, taken .before .before .before .byte .ensures) (answer taken (told .enum-told3 .given .1))
 
 returns-4 : tie.Need-returns-4
-unfolding refusalOf
-returns-4 c = answer (c .before .before) (c .enum-told4 .given .1)
+unfolding untakenBy
+returns-4 c = c .challenges-refusal .ensures ∙ answer (c .before .before .before) (c .before .enum-told4 .given .1)
 
 returns-5 : tie.Need-returns-5
-unfolding refusalOf
-returns-5 c = answer (c .before .before) (c .enum-told5 .given .1)
+unfolding untakenBy
+returns-5 c = c .shifted-refusal .ensures ∙ answer (c .before .before .before) (c .before .enum-told5 .given .1)
 
 returns-6 : tie.Need-returns-6
-unfolding refusalOf
-returns-6 c = answer (c .before .before) (c .enum-told6 .given .1)
+unfolding untakenBy
+returns-6 c =
+    let sent = c .before .before in
+    let refusal = sent .before .before in
+    let told = refusal .before in
+    let taken = told .before .before in
+    c .or-next4 .ensures
+    ∙ rw (sent .or-next3 .ensures, refusal .response-refusal .ensures, sent .before .has3 .ensures, c .before .has4 .ensures, taken .before .before .before .byte .ensures)
+    (answer taken (told .enum-told6 .given .1))
 
 returns-7 : tie.Need-returns-7
-unfolding refusalOf
+unfolding untakenBy
 returns-7 c = answer (c .before .before .before) (c .before .handler .given .1)
 
 pub untaken-spec : {M : Type 1} → statement M
 untaken-spec =
     tie.close
     (tie.spec
+    byte-requires
     tag-requires
     stage-of-requires
     taken-by-requires
     enum-told
+    setup-refusal-requires
     enum-told-2
+    dealing-refusal-requires
+    has-requires
+    or-next-requires
     enum-told-3
+    complaint-refusal-requires
+    has-requires-2
+    or-next-requires-2
     enum-told-4
+    challenges-refusal-requires
     enum-told-5
+    shifted-refusal-requires
     enum-told-6
+    response-refusal-requires
+    has-requires-3
+    or-next-requires-3
+    has-requires-4
+    or-next-requires-4
     enum-known-handler
     returns
     returns-2
