@@ -2,7 +2,7 @@
 use mathlib.Core.Path.{_≡_, sym, ap, subst, _∙_}
 use mathlib.Core.Bool.{true}
 use mathlib.Core.List.{List, []}
-use Prim.Native.Nat.{ℕ, _+_, _*_, _-_, _/_, _%_, _≤_, _<_}
+use Prim.Native.Nat.{ℕ, _+_, _*_, _-_, _/_, _%_, _^_, _≤_, _<_}
 use native.Mathlib.Omega.{arith}
 use lib.ListN.{length, getD}
 use lib.Dec.{eqb}
@@ -30,7 +30,7 @@ use Rattle.arrays.specs.Arrays.{base}
 use Rattle.dealing.specs.Definitions.{noSetup, setupOf, wrongShares}
 use Rattle.run.specs.Runs.{wellFormed, stageOf, transcriptOf}
 use Rattle.response.specs.Definitions.{shiftedPhiOf}
-use Rattle.complaint.specs.Definitions.{blamedBy}
+use Rattle.complaint.specs.Definitions.{blamedBy, maskBy}
 use Rattle.run.specs.RunLaws.{formed-test}
 use Rattle.promises.specs.Lists.{ofTag, first, some, sentBy, recordOf, challengeBy, shiftBy}
 use Rattle.promises.specs.ListLaws.{recordOf-all}
@@ -57,6 +57,7 @@ pub record ComplaintsOf (setup : Setup) (dealers : ℕ) (c : Complaints) (l : Li
   pub senders : Senders (setup .n) (c .count) (c .holders) l
   pub masks-size : length (c .masks) ≡ mostParties
   pub masks-are : Marks (maskAt (setup .n)) (c .masks) l
+  pub masks-width : (j : ℕ) → maskBy c j < 2 ^ setup .n
   pub blamed-is : (i : ℕ) → has (blamedBy (setup .n) c) i ≡ some (λ s. has (maskAt (setup .n) s) i) l
   pub founded : All (λ s. (i : ℕ) → has (maskAt (setup .n) s) i ≡ true → has dealers i ≡ true) l
 

@@ -4,7 +4,8 @@ use mathlib.Core.Bool.{Bool, true, not, _||_}
 use mathlib.Core.List.{List, []}
 use Prim.Native.Nat.{ℕ, _+_, _-_, _^_, _≤_, _<_}
 use native.Mathlib.Omega.{arith}
-use native.Mathlib.Decide.{decLt}
+use native.Mathlib.Decide.{ℕ-discrete, decLt}
+use lib.Pow.{pow-pos}
 use lib.ListN.{length-set}
 use Rattle.lists.specs.Tests.{allTo}
 use Rattle.lists.specs.TestLaws.{all-at, no-both, not-yes, and-left, passed, or-next}
@@ -25,11 +26,11 @@ use Rattle.complaint.specs.declared.Complaints.{Complaints}
 use Rattle.response.specs.declared.Responses.{Responses}
 use Rattle.run.specs.declared.Run.{Run}
 use Rattle.dealing.specs.Definitions.{noDealings, dealingNumber, wrongShares, withDealing, mayBlame}
-use Rattle.complaint.specs.Definitions.{noComplaints, complaintNumber, withComplaint, blamedBy}
+use Rattle.complaint.specs.Definitions.{noComplaints, complaintNumber, withComplaint, blamedBy, maskBy}
 use Rattle.verification.specs.Definitions.{transcript}
 use Rattle.response.specs.Definitions.{noResponses, responseNumber, withResponse}
 use Rattle.run.specs.Runs.{transcriptOf}
-use Rattle.complaint.specs.ComplaintLaws.{blamed-none, blamed-more}
+use Rattle.complaint.specs.ComplaintLaws.{blamed-none, blamed-more, mask-none, mask-zero, mask-own, mask-other}
 use Rattle.promises.specs.Lists.{some}
 use Rattle.promises.specs.ListLaws.{snoc, some-snoc}
 use Rattle.promises.specs.SenderLaws.{New, has-pos, senders-none, slots-none, marks-none, senders-more, slots-more, marks-more}
@@ -56,6 +57,7 @@ no-complaints setup dealers =
       senders = senders-none (setup .n);
       masks-size = length-filled {A = ℕ} mostParties 0;
       masks-are = marks-none (maskAt (setup .n)) (noComplaints .masks);
+      masks-width = λ j. rw (mask-none j) (pow-pos (setup .n));
       blamed-is = blamed-none (setup .n);
       founded = tt;
     }
@@ -102,6 +104,7 @@ complaints-kept setup dealers c s l b new h =
       senders = h .senders;
       masks-size = h .masks-size;
       masks-are = h .masks-are;
+      masks-width = h .masks-width;
       blamed-is = h .blamed-is;
       founded = all-map _ _ (λ x f i e. rw (has-insert dealers (sender s) i (new .sender-pos) (omega arith), f i e)) l (h .founded);
     }
@@ -123,29 +126,39 @@ blames-dealers n j mask d l e i h = and-left (has (d .dealers) i) _ (go (decLt n
     go (no k) = rw (back, h) at (all-at n _ e (i - 1) (omega (arith, pos)))
 
 pub complaint-new : (r : Run) (s : List ℕ) → complaintNumber (r .setup) (r .dealings) (r .complaints) s ≡ 0
-    → New (r .setup .n) (r .complaints .holders) s × ((i : ℕ) → has (maskAt (r .setup .n) s) i ≡ true → has (r .dealings .dealers) i ≡ true)
+    → New (r .setup .n) (r .complaints .holders) s × ((i : ℕ) → has (maskAt (r .setup .n) s) i ≡ true → has (r .dealings .dealers) i ≡ true) × (maskAt (r .setup .n) s < 2 ^ r .setup .n)
 unfolding complaintNumber
 complaint-new r s e =
     let c = or-next _ _ e in
     let p = complaint-passed _ s (c .0) in
     let p₁ = passed _ 12 _ (c .1) (omega arith) in
     let p₂ = passed _ 13 0 (p₁ .1) (omega arith) in
-    (record { sender-pos = p .sender-pos; sender-max = p .sender-max; unsent = not-yes _ (p₁ .0) }, blames-dealers (r .setup .n) (sender s) (maskAt (r .setup .n) s) (r .dealings) (p .mask) (p₂ .0))
+    (record { sender-pos = p .sender-pos; sender-max = p .sender-max; unsent = not-yes _ (p₁ .0) }, blames-dealers (r .setup .n) (sender s) (maskAt (r .setup .n) s) (r .dealings) (p .mask) (p₂ .0), p .mask)
 
 pub complaints-more : (setup : Setup) (dealers : ℕ) (c : Complaints) (s : List ℕ) (l : List (List ℕ)) → setup .n ≤ mostParties → New (setup .n) (c .holders) s
-    → ((i : ℕ) → has (maskAt (setup .n) s) i ≡ true → has dealers i ≡ true) → ComplaintsOf setup dealers c l → ComplaintsOf setup dealers (withComplaint (setup .n) c s) (snoc l s)
+    → ((i : ℕ) → has (maskAt (setup .n) s) i ≡ true → has dealers i ≡ true) → maskAt (setup .n) s < 2 ^ setup .n
+    → ComplaintsOf setup dealers c l → ComplaintsOf setup dealers (withComplaint (setup .n) c s) (snoc l s)
 unfolding withComplaint
-complaints-more setup dealers c s l b new blames h =
+complaints-more setup dealers c s l b new blames fits h =
     record {
       senders = senders-more s b new (h .senders);
       masks-size = length-set (c .masks) _ _ ∙ h .masks-size;
       masks-are = marks-more s b new (h .senders) (maskAt (setup .n)) (c .masks) (h .masks-size) (h .masks-are);
+      masks-width = λ j. narrow j (ℕ-discrete j (sender s)) (decLt 0 j);
       blamed-is = λ i. more i ∙ ap (λ (z : Bool). z || has (maskAt (setup .n) s) i) (h .blamed-is i) ∙ sym (some-snoc (λ x. has (maskAt (setup .n) x) i) l s);
       founded = all-snoc _ l s (h .founded) blames;
     }
   where
     more : (i : ℕ) → has (blamedBy (setup .n) (withComplaint (setup .n) c s)) i ≡ (has (blamedBy (setup .n) c) i || has (maskAt (setup .n) s) i)
     more = blamed-more (setup .n) c s (h .masks-size) b (new .sender-pos) (new .sender-max) (new .unsent)
+
+    few : sender s ≤ mostParties
+    few = omega (arith, new .sender-max)
+
+    narrow : (j : ℕ) → Dec (j ≡ sender s) → Dec (0 < j) → maskBy (withComplaint (setup .n) c s) j < 2 ^ setup .n
+    narrow j (yes e) p = rw (e, mask-own (setup .n) c s (h .masks-size) (new .sender-pos) few (new .unsent)) fits
+    narrow j (no e) (yes p) = rw (mask-other (setup .n) c s (h .masks-size) (new .sender-pos) few j p e) (h .masks-width j)
+    narrow j (no e) (no p) = let none : j ≡ 0 = omega arith in rw (none, mask-zero (withComplaint (setup .n) c s)) (pow-pos (setup .n))
 
 -- ---- RE
 

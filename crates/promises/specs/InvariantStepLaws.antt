@@ -155,7 +155,7 @@ complaint-live r s f g e h =
     record {
       setup = h .setup;
       dealings = h .dealings;
-      complaints = complaints-more (r .setup) (r .dealings .dealers) (r .complaints) s (f VE) (live-bounds r f h .n-max) (c .0) (c .1) (h .complaints);
+      complaints = complaints-more (r .setup) (r .dealings .dealers) (r .complaints) s (f VE) (live-bounds r f h .n-max) (c .0) (c .1) (c .2) (h .complaints);
       challenges = h .challenges;
       responses = h .responses;
       rows = rw (none .2) tt;

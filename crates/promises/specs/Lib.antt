@@ -15,3 +15,4 @@ pub mod Answers
 pub mod Pages
 pub mod Shifts
 pub mod Complaints
+pub mod Widths

@@ -3,9 +3,10 @@ use mathlib.Core.Path.{_≡_, refl, sym, ap, ap₂, _∙_}
 use mathlib.Core.Logic.{_≢_}
 use mathlib.Core.Bool.{Bool, true, false, _||_}
 use mathlib.Core.List.{List, [], _∷_}
-use Prim.Native.Nat.{ℕ, zero, suc, _+_, _-_, _≤_, _<_}
+use Prim.Native.Nat.{ℕ, zero, suc, _+_, _-_, _^_, _≤_, _<_}
 use native.Mathlib.Omega.{arith}
 use native.Mathlib.Numerals.{add-one}
+use lib.Pow.{pow-pos}
 use lib.ListN.{length, getD, set, length-append}
 use lib.Seq.{getD-set-same, getD-set-other}
 use lib.Dec.{eqb}
@@ -18,6 +19,7 @@ use Rattle.lists.specs.StoreLaws.{stored-at, stored-other}
 use Rattle.sets.specs.Masks.{has, insert, count}
 use Rattle.sets.specs.MaskLaws.{has-none, has-zero, has-insert}
 use Rattle.sets.specs.MemberLaws.{no-members, more-members, count-le}
+use Rattle.sets.specs.WidthLaws.{insert-width}
 use Rattle.parameters.specs.Definitions.{mostParties, stride, places}
 use Rattle.records.specs.Bytes.{word, sender}
 use Rattle.arrays.specs.Arrays.{base}
@@ -29,6 +31,7 @@ pub record Senders (n number mask : ℕ) (l : List (List ℕ)) : Type 0 where
   pub number-is : number ≡ length l
   pub members-are : number ≡ count n (has mask)
   pub mask-is : (i : ℕ) → has mask i ≡ sentBy i l
+  pub width : mask < 2 ^ n
   pub parties : All (λ s. (0 < sender s) × (sender s ≤ n)) l
   pub differ : Distinct sender l
 
@@ -55,7 +58,7 @@ has-pos m (suc i) e = omega arith
 
 pub senders-none : (n : ℕ) → Senders n 0 0 []
 unfolding some
-senders-none n = record { number-is = refl; members-are = sym (no-members (has 0) has-zero 1 n); mask-is = has-zero; parties = tt; differ = tt }
+senders-none n = record { number-is = refl; members-are = sym (no-members (has 0) has-zero 1 n); mask-is = has-zero; width = pow-pos n; parties = tt; differ = tt }
 
 pub slots-none : {A : Type 0} (make : ℕ → A) (filler : A) (width : ℕ) (kept : List A) → Slots make filler width kept []
 unfolding some
@@ -103,6 +106,7 @@ module _ {n number mask : ℕ} {l : List (List ℕ)} (s : List ℕ) (n-max : n �
             ∙ ap suc (h .members-are)
             ∙ sym (more-members (has mask) (has (insert mask (sender s))) (sender s) 1 n (c .sender-pos) (omega (arith, c .sender-max)) (c .unsent) (λ i d e. has-more i));
         mask-is = λ i. has-more i ∙ ap₂ _||_ (h .mask-is i) (eqb-sym i (sender s)) ∙ sym (some-snoc (λ x. eqb (sender x) i) l s);
+        width = insert-width n mask (sender s) (c .sender-max) (h .width);
         parties = all-snoc _ l s (h .parties) (c .sender-pos, c .sender-max);
         differ = distinct-snoc sender l s (h .differ) (none-sent (sender s) l unsent-yet);
       }
