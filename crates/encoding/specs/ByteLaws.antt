@@ -17,7 +17,7 @@ use Rattle.encoding.specs.Bytes.{bytesOf, four, fours, powerOfFour}
 
 pub length-bytes : (w x : ℕ) → length (bytesOf w x) ≡ w
 length-bytes zero x = refl
-length-bytes (suc w) x = ap suc (length-bytes w x)
+length-bytes (suc w) x = ap suc (length-bytes w _)
 
 pub length-fours : (m : ℕ) (f : ℕ → ℕ) → length (fours m f) ≡ 4 * m
 unfolding fours

@@ -11,7 +11,7 @@ use Rattle.sets.specs.Masks.{has, count}
 use Rattle.sets.specs.MemberLaws.{same-members}
 use Rattle.parameters.specs.Definitions.{batch}
 use Rattle.records.specs.Bytes.{sender}
-use Rattle.records.specs.Tags.{SU, DE, VE, CH, CS}
+use Rattle.records.specs.Tags.{SU, DE, VE, CH, CS, maskAt}
 use Rattle.protocol.specs.Alike.{Alike}
 use Rattle.protocol.specs.Signature.{Sound}
 use Rattle.dealing.specs.declared.Setup.{Setup}
@@ -21,7 +21,7 @@ use Rattle.run.specs.Runs.{wellFormed, stageOf, transcriptOf}
 use Rattle.dealing.specs.Definitions.{setupOf, keyIn}
 use Rattle.run.specs.Steps.{after}
 use Rattle.promises.specs.SenderLaws.{has-pos}
-use Rattle.promises.specs.Lists.{accepted, ofTag, first, parties, dealer, hold, bad, qualified, read, maskFrom, challengeBy}
+use Rattle.promises.specs.Lists.{accepted, ofTag, first, some, parties, dealer, hold, bad, qualified, read, maskFrom, challengeBy}
 use Rattle.promises.specs.ListLaws.{some-all}
 use Rattle.promises.specs.PlaceLaws.{cell-lt}
 use Rattle.complaint.specs.Definitions.{blamedBy, maskBy}
@@ -76,10 +76,9 @@ module _ (l : List (List ℕ)) (p : 0 < after l .stage) where
   unfolding bad dealer
   made-bad i =
       let blamed = made-live .complaints .blamed-is i in
-      rw (← made-parties)
-      (within (has (blamedBy (after l .setup .n) (after l .complaints)) i) (has (after l .dealings .dealers) i)
+      within (has (blamedBy (after l .setup .n) (after l .complaints)) i) (has (after l .dealings .dealers) i)
       (λ e. let w = some-all _ _ _ (made-live .complaints .founded) (sym blamed ∙ e) in w .2 i (w .1))
-      ∙ ap₂ _&&_ (made-live .dealings .senders .mask-is i) blamed)
+      ∙ ap₂ _&&_ (made-live .dealings .senders .mask-is i) (blamed ∙ ap (λ (n : ℕ). some (λ s. has (maskAt n s) i) (ofTag VE (accepted l))) made-parties)
 
   pub made-qual : (i : ℕ) → (has (after l .dealings .dealers) i && not (has (blamedBy (after l .setup .n) (after l .complaints)) i)) ≡ qualified (accepted l) i
   unfolding qualified dealer
