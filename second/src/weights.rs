@@ -17,6 +17,14 @@ pub struct WeightTable {
 }
 
 impl WeightTable {
+    /// Finds the weights of distinct points at several targets in one go.
+    pub fn prepare(&self, points: &[Scalar], targets: &[Scalar]) {
+        let solved = solve_weights_at(points, targets);
+        for (&target, weights) in targets.iter().zip(solved) {
+            self.known.borrow_mut().insert((points.to_vec(), target), Rc::new(weights));
+        }
+    }
+
     /// The weights of distinct points at a target.
     pub fn weights(&self, points: &[Scalar], target: Scalar) -> Rc<Vec<Scalar>> {
         let place = (points.to_vec(), target);
@@ -42,20 +50,26 @@ impl WeightTable {
     }
 }
 
-/// The weights of distinct points at a target, by Gaussian elimination.
+/// The weights of distinct points at a target.
 pub fn solve_weights(points: &[Scalar], target: Scalar) -> Vec<Scalar> {
-    let mut rows = vandermonde_rows(points, target);
+    solve_weights_at(points, &[target]).concat()
+}
+
+/// The weights of distinct points at each target, by Gaussian elimination.
+fn solve_weights_at(points: &[Scalar], targets: &[Scalar]) -> Vec<Vec<Scalar>> {
+    let mut rows = vandermonde_rows(points, targets);
     for column in 0..points.len() {
         bring_pivot(&mut rows, column);
         clear_column(&mut rows, column);
     }
-    rows.iter().map(|row| row[points.len()]).collect()
+    let column = |place: usize| rows.iter().map(|row| row[points.len() + place]).collect();
+    (0..targets.len()).map(column).collect()
 }
 
-/// Row k holds the k-th powers of the points and, last, of the target.
-fn vandermonde_rows(points: &[Scalar], target: Scalar) -> Vec<Vec<Scalar>> {
+/// Row k holds the k-th powers of the points and, last, of the targets.
+fn vandermonde_rows(points: &[Scalar], targets: &[Scalar]) -> Vec<Vec<Scalar>> {
     let row = |k: usize| {
-        let powers = points.iter().chain([&target]).map(|x| x.power(k as u32));
+        let powers = points.iter().chain(targets).map(|x| x.power(k as u32));
         powers.collect()
     };
     (0..points.len()).map(row).collect()

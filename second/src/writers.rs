@@ -44,8 +44,10 @@ pub fn write_de(
         put_number(&mut record, Element::of(value).number());
     }
     let (points, weights) = (params.committed_points(), WeightTable::default());
-    for j in 1..=params.n {
-        let share = weights.scalar_at(&points, &values, party_point(j));
+    let holders: Vec<Scalar> = (1..=params.n).map(party_point).collect();
+    weights.prepare(&points, &holders);
+    for holder in holders {
+        let share = weights.scalar_at(&points, &values, holder);
         put_number(&mut record, share.number());
     }
     fill(buffer, &record)
