@@ -1,12 +1,18 @@
 //! The parameters n, t, a, the numbers that follow from them, and the points
-//! at which polynomials are known. Written from document 01 alone.
+//! at which polynomials are known. Written from documents 01 and 02 alone.
 
 use crate::arith::Scalar;
 
 /// The number of a party: 1 to n.
 pub type Party = u32;
 
-/// Parameters within the bounds of document 01.
+/// The most parties that a committee may have (request 2.2).
+pub const MOST_PARTIES: u32 = 64;
+
+/// Up to so many parties the mask of VE has four bytes, and above them eight.
+pub const MOST_NARROW: u32 = 32;
+
+/// Parameters within the bounds: those of document 01, with request 2.2's for n.
 #[derive(Clone, Copy, Debug, PartialEq, Eq)]
 pub struct Params {
     pub n: u32,
@@ -18,7 +24,7 @@ impl Params {
     /// The parameters; none if they are outside the bounds.
     pub fn new(n: u8, t: u8, a: u8) -> Option<Params> {
         let (n, t, a) = (u32::from(n), u32::from(t), u32::from(a));
-        let within = t >= 1 && a >= 1 && n <= 32 && n + 1 >= 3 * t + 2 * a;
+        let within = t >= 1 && a >= 1 && n <= MOST_PARTIES && n + 1 >= 3 * t + 2 * a;
         within.then_some(Params { n, t, a })
     }
 
@@ -35,6 +41,15 @@ impl Params {
     /// The number of dealings, and of complaint rows, that a run waits for.
     pub fn majority(&self) -> usize {
         (self.n - self.t) as usize
+    }
+
+    /// How many bytes the mask of VE has.
+    pub fn mask_length(&self) -> usize {
+        if self.n <= MOST_NARROW {
+            4
+        } else {
+            8
+        }
     }
 
     pub fn has_party(&self, number: Party) -> bool {

@@ -86,7 +86,7 @@ impl Tag {
         match self {
             Tag::Su => setup_length(params.t as u8),
             Tag::De => 4 + 4 * quorum + 4 * n,
-            Tag::Ve => 8,
+            Tag::Ve => 4 + params.mask_length(),
             Tag::Ch => 4 + 4 * a * b,
             Tag::Cs => 8 + 4 * a * b,
             Tag::Re => 4 + 4 * b,
@@ -168,12 +168,22 @@ pub fn read_complaint(bytes: &[u8], params: &Params) -> Result<Complaint, Refusa
     check_length(bytes, Tag::Ve.length(params))?;
     check_reserved(&bytes[3..4])?;
     let holder = party(bytes[2], params)?;
-    let mask = numbers(&bytes[4..])[0];
-    let blamed: BTreeSet<Party> = (1..=32).filter(|i| mask >> (i - 1) & 1 == 1).collect();
+    let blamed = masked(&bytes[4..]);
     if blamed.iter().any(|&dealer| dealer > params.n) {
         return Err(Refusal::Mask);
     }
     Ok(Complaint { holder, blamed })
+}
+
+/// The parties in a mask: its last byte holds 1 to 8, the lowest bit first, the
+/// byte before it 9 to 16, and so on.
+fn masked(mask: &[u8]) -> BTreeSet<Party> {
+    let bytes = (0..).zip(mask.iter().rev());
+    let in_byte = |(place, byte): (Party, &u8)| {
+        let (byte, before) = (*byte, 8 * place);
+        (1..=8).filter(move |bit| byte >> (bit - 1) & 1 == 1).map(move |bit| before + bit)
+    };
+    bytes.flat_map(in_byte).collect()
 }
 
 /// CH, and CS, whose first scalar is the shift.

@@ -1,6 +1,7 @@
 //! The writers of SU, DE, VE and RE. Each fills a buffer of exactly the
 //! record's length, or refuses and leaves it alone. The order of refusals is
-//! that of document 01: 11, 4, 5, 14, 10, 6, 9. Written from document 01 alone.
+//! that of document 01: 11, 4, 5, 14, 10, 6, 9. Written from documents 01 and 02
+//! alone.
 
 use crate::arith::{Element, Scalar};
 use crate::params::{party_point, Params, Party};
@@ -60,10 +61,19 @@ pub fn write_ve(run: &Run, j: u8, buffer: &mut [u8]) -> Result<(), Refusal> {
     let params = run.params();
     check_party(&params, j)?;
     let blamed = (1..=params.n).filter(|&dealer| run.has_wronged(dealer, Party::from(j)));
-    let mask = blamed.fold(0u32, |mask, dealer| mask | 1 << (dealer - 1));
     let mut record = begin(Tag::Ve, &[j, 0]);
-    put_number(&mut record, mask);
+    record.extend(mask(blamed, params.mask_length()));
     fill(buffer, &record)
+}
+
+/// A mask of so many bytes: parties 1 to 8 stand in the last, the lowest bit first.
+fn mask(parties: impl Iterator<Item = Party>, length: usize) -> Vec<u8> {
+    let mut mask = vec![0; length];
+    for party in parties {
+        let place = (party - 1) as usize;
+        mask[length - 1 - place / 8] |= 1 << (place % 8);
+    }
+    mask
 }
 
 /// RE from a run, j, F(j) and n shares by dealer number, of which only those

@@ -1,13 +1,16 @@
 //! The secrets of a committee, and the honest records made from them by the writers.
 
 use crate::arith::{Scalar, Q};
-use crate::params::{party_point, Params, Party};
+use crate::params::{party_point, Params, Party, MOST_NARROW, MOST_PARTIES};
 use crate::records::Tag;
 use crate::refusal::Refusal;
 use crate::rng::Rng;
 use crate::run::Run;
 use crate::weights::WeightTable;
 use crate::writers::{write_de, write_re, write_su, write_ve};
+
+/// n, t and a, within the bounds or not.
+pub type Triple = (u8, u8, u8);
 
 #[derive(Clone)]
 pub struct Committee {
@@ -35,7 +38,7 @@ fn random_scalars(count: usize, rng: &mut Rng) -> Vec<Scalar> {
     (0..count).map(|_| random_scalar(rng)).collect()
 }
 
-/// Parameters within the bounds, with this packing if there is one.
+/// Parameters within the bounds of document 01, with this packing if there is one.
 pub fn random_params(packing: Option<u32>, rng: &mut Rng) -> Params {
     loop {
         let a = packing.unwrap_or_else(|| rng.between(1, 15)) as u8;
@@ -44,6 +47,23 @@ pub fn random_params(packing: Option<u32>, rng: &mut Rng) -> Params {
             return params;
         }
     }
+}
+
+/// Parameters within the bounds that document 01 had not.
+pub fn random_wide_params(rng: &mut Rng) -> Params {
+    loop {
+        let n = rng.between(MOST_NARROW + 1, MOST_PARTIES) as u8;
+        let (t, a) = (rng.between(1, 21) as u8, rng.between(1, 31) as u8);
+        if let Some(params) = Params::new(n, t, a) {
+            return params;
+        }
+    }
+}
+
+/// Whether the parameters were outside the bounds of document 01 and are within
+/// those of request 2.2.
+pub fn let_in_later((n, t, a): Triple) -> bool {
+    Params::new(n, t, a).is_some_and(|params| params.n > MOST_NARROW)
 }
 
 /// The record that a writer makes in a buffer of this length.
@@ -57,7 +77,7 @@ pub fn as_numbers(scalars: &[Scalar]) -> Vec<u32> {
     scalars.iter().map(|scalar| scalar.number()).collect()
 }
 
-pub fn as_bytes(params: Params) -> (u8, u8, u8) {
+pub fn as_bytes(params: Params) -> Triple {
     (params.n as u8, params.t as u8, params.a as u8)
 }
 

@@ -3,9 +3,9 @@
 //! and a different answer stops the generator.
 
 use super::bytes::put;
-use super::committee::{random_params, random_scalar, Committee};
+use super::committee::{let_in_later, random_params, random_scalar, Committee};
 use crate::arith::Scalar;
-use crate::params::{Params, Party};
+use crate::params::{Params, Party, MOST_NARROW, MOST_PARTIES};
 use crate::records::Tag;
 use crate::refusal::Refusal;
 use crate::rng::Rng;
@@ -32,6 +32,8 @@ pub struct Draft {
     pub noise: u32,
     /// The tags of its records, refused ones among them.
     pub tags: &'static [Tag],
+    /// The bound on n that its refused setups go by: document 01's or request 2.2's.
+    pub most_parties: u32,
     /// The shift that the challenges are given with; CH gives them where there is none.
     pub shift: Option<Scalar>,
 }
@@ -52,6 +54,7 @@ impl Draft {
             silent: BTreeSet::new(),
             noise: 0,
             tags: &FIRST_TAGS,
+            most_parties: if params.n <= MOST_NARROW { MOST_NARROW } else { MOST_PARTIES },
             shift: None,
         }
     }
@@ -90,6 +93,12 @@ impl Draft {
     pub fn with_every_tag(mut self) -> Draft {
         self.tags = &Tag::ALL;
         self
+    }
+
+    /// Refused setups go by request 2.2, and CS is among the refused records.
+    pub fn with_wide_bounds(mut self) -> Draft {
+        self.most_parties = MOST_PARTIES;
+        self.with_every_tag()
     }
 
     /// CS gives the challenges with this shift, and is among the refused records.
@@ -145,7 +154,7 @@ impl Draft {
     fn complaint(&self, holder: Party) -> Vec<u8> {
         let mut record = self.committee.ve(&self.run, holder);
         if self.silent.contains(&holder) {
-            put(&mut record, 4, 0);
+            record[4..].fill(0);
         }
         record
     }
@@ -156,14 +165,28 @@ impl Draft {
         self.bytes.extend(record);
     }
 
-    /// Adds a whole record that the run refuses so.
+    /// Adds a whole record that the run refuses so. Where document 01 refused a
+    /// setup that request 2.2 lets in, the draft goes on by document 01.
     pub fn refuse(&mut self, record: &[u8], refusal: Refusal) {
-        assert_eq!(self.run.give(record), Err(refusal));
+        if !self.was_outside(record, refusal) {
+            assert_eq!(self.run.give(record), Err(refusal));
+        }
         self.bytes.extend(record);
+    }
+
+    /// Is the record a setup that document 01 alone refuses so?
+    fn was_outside(&self, record: &[u8], refusal: Refusal) -> bool {
+        let by_document = refusal == Refusal::Bounds && self.most_parties == MOST_NARROW;
+        by_document && let_in_later((record[2], record[3], record[4]))
     }
 
     pub fn at_end(&self) -> bool {
         self.run.stage.takes().is_empty()
+    }
+
+    /// How many bits the mask of VE has in this committee.
+    pub fn mask_bits(&self) -> u32 {
+        8 * self.params().mask_length() as u32
     }
 
     /// The length of a record of this tag in this committee.

@@ -10,7 +10,7 @@ use super::draft::Draft;
 use super::edges;
 use super::log_set::{LogSet, NamedLog};
 use super::{shift_edges, shifts};
-use crate::params::Params;
+use crate::params::{Params, MOST_NARROW};
 use crate::rng::Rng;
 use crate::run::Stage;
 
@@ -61,10 +61,11 @@ fn document_logs(gathered: &mut LogSet, _: &mut Rng) {
     gathered.add("case-g-most", document::plain_setup(32, 1, 16));
 }
 
-/// Every (n, t, a) within the bounds with n = 3t+2a-1.
+/// Every (n, t, a) within the bounds of document 01 with n = 3t+2a-1.
 fn full_packings() -> Vec<Params> {
     let pairs = (1..=10u8).flat_map(|t| (1..=15u8).map(move |a| (t, a)));
-    pairs.filter_map(|(t, a)| Params::new(3 * t + 2 * a - 1, t, a)).collect()
+    let within = pairs.filter_map(|(t, a)| Params::new(3 * t + 2 * a - 1, t, a));
+    within.filter(|params| params.n <= MOST_NARROW).collect()
 }
 
 fn full_packing_logs(gathered: &mut LogSet, rng: &mut Rng) {

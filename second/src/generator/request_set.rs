@@ -1,9 +1,10 @@
 //! A set of writer requests in the making. Each is added with the number that
 //! the writer must answer, and a different one stops the generator.
 
+use super::committee::let_in_later;
 use crate::arith::Q;
 use crate::params::Params;
-use crate::requests::Request;
+use crate::requests::{Call, Request};
 use crate::rng::Rng;
 
 /// The requests gathered so far.
@@ -13,9 +14,12 @@ pub struct RequestSet {
 }
 
 impl RequestSet {
-    /// Adds a request that must get this number.
+    /// Adds a request that must get this number. Where document 01 gave 4 to
+    /// parameters that request 2.2 lets in, it must get another.
     pub fn add(&mut self, request: Request, number: u8) {
-        assert_eq!(request.answer().0, number, "{request:?}");
+        let (answer, let_in) = (request.answer().0, names_let_in(&request));
+        let right = if number == 4 && let_in { answer != 4 } else { answer == number };
+        assert!(right, "{answer}, not {number}: {request:?}");
         self.requests.push(request);
     }
 
@@ -34,6 +38,14 @@ impl RequestSet {
             }
             self.add(request, numbers[0]);
         }
+    }
+}
+
+/// Does the request name parameters that request 2.2 lets in?
+fn names_let_in(request: &Request) -> bool {
+    match request.call {
+        Call::Su { params, .. } | Call::De { params, .. } => let_in_later(params),
+        Call::Ve { .. } | Call::Re { .. } => false,
     }
 }
 
@@ -72,7 +84,7 @@ pub fn too_large(rng: &mut Rng) -> u32 {
     rng.pick(&[Q, Q + 1, u32::MAX])
 }
 
-/// A few committees, the largest among them.
+/// A few committees, the largest of document 01 among them.
 pub fn some_params() -> Vec<Params> {
     let triples = [(4, 1, 1), (7, 1, 2), (11, 2, 3), (32, 1, 15), (32, 10, 1)];
     let within = triples.map(|(n, t, a)| Params::new(n, t, a).expect("within the bounds"));

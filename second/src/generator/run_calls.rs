@@ -37,7 +37,7 @@ fn sets(draft: &Draft) -> &Sets {
 
 pub fn ve_request(draft: &Draft, j: Party) -> Request {
     let call = Call::Ve { log: draft.bytes.clone(), j: j as u8 };
-    Request { call, buffer_length: 8 }
+    Request { call, buffer_length: draft.length(Tag::Ve) as u16 }
 }
 
 pub fn re_request(draft: &Draft, j: Party) -> Request {
@@ -90,7 +90,7 @@ fn ve_again(gathered: &mut RequestSet, rng: &mut Rng) {
 }
 
 /// Makes a VE request one that must be refused so.
-fn spoil_ve(request: &mut Request, params: Params, number: u8, rng: &mut Rng) {
+pub fn spoil_ve(request: &mut Request, params: Params, number: u8, rng: &mut Rng) {
     let Call::Ve { log, j } = &mut request.call else { panic!("not VE") };
     match number {
         11 => *log = draft_elsewhere(Stage::Complaining, params, rng).bytes,
@@ -124,7 +124,7 @@ pub fn re_requests(gathered: &mut RequestSet, rng: &mut Rng) {
 }
 
 /// Every party in turn, after one response has been taken.
-fn re_senders(gathered: &mut RequestSet, params: Params, rng: &mut Rng) {
+pub fn re_senders(gathered: &mut RequestSet, params: Params, rng: &mut Rng) {
     let mut draft = draft_at(Stage::Responding, params, rng);
     draft.go_on(1, rng);
     for j in 1..=params.n {
@@ -134,7 +134,7 @@ fn re_senders(gathered: &mut RequestSet, params: Params, rng: &mut Rng) {
 }
 
 /// Each share in turn out of range, then at the edge: only QUAL's are tested.
-fn re_values(gathered: &mut RequestSet, params: Params, rng: &mut Rng) {
+pub fn re_values(gathered: &mut RequestSet, params: Params, rng: &mut Rng) {
     let draft = draft_at(Stage::Responding, params, rng);
     for dealer in 1..=params.n {
         let number = if sets(&draft).qual.contains(&dealer) { 6 } else { 0 };

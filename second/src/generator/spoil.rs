@@ -1,10 +1,10 @@
 //! Records made to be refused, each with the number it must be refused with.
 
 use super::bytes::{get, put};
-use super::committee::{random_params, random_scalar};
+use super::committee::{random_params, random_scalar, random_wide_params};
 use super::draft::Draft;
 use crate::arith::{Element, Scalar, P, Q};
-use crate::params::Party;
+use crate::params::{Party, MOST_PARTIES};
 use crate::records::{setup_length, Tag};
 use crate::refusal::Refusal;
 use crate::rng::Rng;
@@ -27,7 +27,7 @@ fn faults_of(tag: Tag) -> &'static [Refusal] {
 fn possible_faults(draft: &Draft, tag: Tag) -> Vec<Refusal> {
     let possible = |&fault: &Refusal| match fault {
         Refusal::Again => !senders(draft).is_empty(),
-        Refusal::Mask => draft.params().n < 32,
+        Refusal::Mask => draft.params().n < draft.mask_bits(),
         _ => true,
     };
     faults_of(tag).iter().copied().filter(possible).collect()
@@ -107,12 +107,12 @@ fn make_fault(draft: &Draft, fault: Refusal, record: &mut Vec<u8>, rng: &mut Rng
             let place = reserved_place(record, rng);
             record[place] = rng.between(1, 255) as u8;
         }
-        Refusal::Bounds => break_bounds(record, rng),
+        Refusal::Bounds => break_bounds(record, draft.most_parties, rng),
         Refusal::Party => record[2] = rng.pick(&[0, n as u8 + 1, 255]),
         Refusal::Element => break_element(draft, record, rng),
         Refusal::Scalar => break_scalar(draft, record, rng),
         Refusal::Mask => {
-            let bit = rng.between(n, 31);
+            let bit = rng.between(n, draft.mask_bits() - 1);
             set_bit(record, bit);
         }
         Refusal::Again => record[2] = rng.pick(&senders(draft)) as u8,
@@ -132,16 +132,17 @@ fn reserved_place(record: &[u8], rng: &mut Rng) -> usize {
     }
 }
 
-/// Puts the parameters of an SU outside the bounds and keeps its length right.
-fn break_bounds(record: &mut Vec<u8>, rng: &mut Rng) {
+/// Puts the parameters of an SU outside the bounds, with this one for n, and
+/// keeps its length right.
+fn break_bounds(record: &mut Vec<u8>, most_parties: u32, rng: &mut Rng) {
     let (t, a) = (record[3], record[4]);
     match rng.below(6) {
         0 => record[2] = 3 * t + 2 * a - 2,
-        1 => record[2] = rng.between(33, 255) as u8,
+        1 => record[2] = rng.between(most_parties + 1, 255) as u8,
         2 => record[2] = 0,
         3 => record[3] = 0,
-        4 => record[4] = rng.pick(&[0, 16, 255]),
-        _ => record[3] = rng.between(11, 255) as u8,
+        4 => record[4] = rng.pick(&[0, most_parties as u8 / 2, 255]),
+        _ => record[3] = rng.between(most_parties.div_ceil(3), 255) as u8,
     }
     record.resize(setup_length(record[3]), 1);
 }
@@ -191,10 +192,10 @@ fn blame_falsely(draft: &Draft, record: &mut [u8], rng: &mut Rng) {
     set_bit(record, rng.pick(&blameless) - 1);
 }
 
-/// Sets a bit of the mask of a VE record.
-fn set_bit(record: &mut [u8], bit: u32) {
-    let mask = get(record, 4) | 1 << bit;
-    put(record, 4, mask);
+/// Sets a bit of the mask of a VE record, whose last byte has the lowest bits.
+pub fn set_bit(record: &mut [u8], bit: u32) {
+    let place = record.len() - 1 - bit as usize / 8;
+    record[place] |= 1 << (bit % 8);
 }
 
 /// Changes one response number.
@@ -228,7 +229,7 @@ pub fn random_alien(draft: &Draft, rng: &mut Rng) -> Vec<u8> {
 /// A whole record of a tag, with whatever contents.
 pub fn alien(draft: &Draft, tag: Tag, rng: &mut Rng) -> Vec<u8> {
     match tag {
-        Tag::Su => alien_setup(rng),
+        Tag::Su => alien_setup(draft, rng),
         Tag::De => draft.committee.de(rng.between(1, draft.params().n)),
         Tag::Ch => draft.committee.ch(rng),
         Tag::Cs => draft.committee.cs(random_scalar(rng), rng),
@@ -240,8 +241,9 @@ pub fn alien(draft: &Draft, tag: Tag, rng: &mut Rng) -> Vec<u8> {
 }
 
 /// An SU of its own length: within the bounds or with any t.
-fn alien_setup(rng: &mut Rng) -> Vec<u8> {
-    let params = random_params(None, rng);
+fn alien_setup(draft: &Draft, rng: &mut Rng) -> Vec<u8> {
+    let wide = draft.most_parties == MOST_PARTIES && rng.chance(50);
+    let params = if wide { random_wide_params(rng) } else { random_params(None, rng) };
     let any_t = rng.pick(&[0, 1, 2, 11, 64, 255]);
     let t = if rng.chance(60) { params.t as u8 } else { any_t };
     let mut record = [b'S', b'U', params.n as u8, t, params.a as u8, 0].to_vec();
