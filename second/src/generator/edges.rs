@@ -34,7 +34,8 @@ pub fn draft_at(stage: Stage, draft: Draft, rng: &mut Rng) -> Draft {
 }
 
 pub fn setup_logs(gathered: &mut LogSet, rng: &mut Rng) {
-    gathered.add("setup-outside-bounds", outside_bounds(rng));
+    let draft = small_draft(rng);
+    gathered.add("setup-outside-bounds", outside_bounds(draft, 33, rng));
     gathered.add("setup-extreme-bytes", extreme_parameters(rng));
     gathered.add("setup-bad-keys", bad_keys(rng));
     gathered.add_many("setup-only", 4, |_| Draft::random(rng).committee.su());
@@ -46,14 +47,14 @@ pub fn setup_logs(gathered: &mut LogSet, rng: &mut Rng) {
     }
 }
 
-/// Setups one step outside each bound, then a good log.
-fn outside_bounds(rng: &mut Rng) -> Vec<u8> {
-    let mut draft = small_draft(rng);
+/// Setups one step outside each bound, with an n that is above its own, then a
+/// good log.
+pub fn outside_bounds(mut draft: Draft, above: u8, rng: &mut Rng) -> Vec<u8> {
     for (t, a) in (0..=12).flat_map(|t| (0..=17).map(move |a| (t, a))) {
         let least = 3 * t + 2 * a - 1;
         let n = if t == 0 || a == 0 { 32 } else { least - 1 };
         draft.refuse(&document::plain_setup(n as u8, t as u8, a as u8), Refusal::Bounds);
-        draft.refuse(&document::plain_setup(33, t as u8, a as u8), Refusal::Bounds);
+        draft.refuse(&document::plain_setup(above, t as u8, a as u8), Refusal::Bounds);
     }
     completed(draft, rng)
 }
@@ -105,7 +106,7 @@ pub fn cut_logs(gathered: &mut LogSet, rng: &mut Rng) {
 }
 
 /// The beginnings of records to break off after.
-fn cut_tails(draft: &Draft, rng: &mut Rng) -> Vec<Vec<u8>> {
+pub fn cut_tails(draft: &Draft, rng: &mut Rng) -> Vec<Vec<u8>> {
     let mut tails = Vec::new();
     for &tag in draft.tags {
         let taken = draft.taken_tags().contains(&tag);
@@ -173,19 +174,20 @@ pub fn size_logs(gathered: &mut LogSet, rng: &mut Rng) {
         gathered.add(&format!("size-{size}-zeros"), vec![0; size]);
         let draft = Draft::random(rng);
         let done = draft_at(Stage::Done, draft, rng);
-        gathered.add(&format!("size-{size}-done"), padded(done.bytes, size));
+        gathered.add(&format!("size-{size}-done"), padded(done.bytes, 4, size));
         let draft = small_draft(rng);
         let begun = draft_at(Stage::Dealing, draft, rng);
-        gathered.add(&format!("size-{size}-begun"), padded(begun.bytes, size));
+        gathered.add(&format!("size-{size}-begun"), padded(begun.bytes, 4, size));
     }
     gathered.add("size-ends-done", exactly_filled(rng));
-    gathered.add("size-over-70000", padded(document::worked(), 70_000));
+    gathered.add("size-over-70000", padded(document::worked(), 4, 70_000));
     gathered.add("size-setups", large_setups());
 }
 
-/// Refused VE records after the bytes until they have this size.
-fn padded(mut bytes: Vec<u8>, size: usize) -> Vec<u8> {
-    let filler = record("VE", &[1, 0], &[0]);
+/// Refused VE records, with masks of so many bytes, after the bytes until they
+/// have this size.
+pub fn padded(mut bytes: Vec<u8>, mask_length: usize, size: usize) -> Vec<u8> {
+    let filler = [b"VE\x01\0".to_vec(), vec![0; mask_length]].concat();
     bytes.extend(filler.iter().cycle().take(size - bytes.len()));
     bytes
 }
@@ -200,7 +202,7 @@ fn exactly_filled(rng: &mut Rng) -> Vec<u8> {
         _ => 2,
     };
     let late = [b"SU\x04", &[t][..], &rng.bytes(setup_length(t) - 4)].concat();
-    let filler = padded(late, room);
+    let filler = padded(late, 4, room);
     [&worked[..setup], &filler, &worked[setup..]].concat()
 }
 
@@ -221,12 +223,12 @@ pub fn flood_logs(gathered: &mut LogSet, rng: &mut Rng) {
         }
         gathered.add("flood", completed(draft, rng));
     }
-    gathered.add("flood-of-complaints", complaint_flood(rng));
+    let draft = small_draft(rng).with_bad_dealers(1, rng);
+    gathered.add("flood-of-complaints", complaint_flood(draft, rng));
 }
 
 /// Thousands of refused complaint rows at their own stage, then the rest.
-fn complaint_flood(rng: &mut Rng) -> Vec<u8> {
-    let draft = small_draft(rng).with_bad_dealers(1, rng);
+pub fn complaint_flood(draft: Draft, rng: &mut Rng) -> Vec<u8> {
     let mut draft = draft_at(Stage::Complaining, draft, rng);
     draft.go_on(1, rng);
     while draft.bytes.len() < 60_000 {
@@ -248,7 +250,10 @@ pub fn changed_logs(gathered: &mut LogSet, rng: &mut Rng) {
         spliced(&log, rng)
     });
     let tags = [Tag::De, Tag::De, Tag::Ve, Tag::Ve, Tag::Ch, Tag::Re];
-    gathered.add_many("jumbled", 16, |_| jumbled(&tags, rng));
+    gathered.add_many("jumbled", 16, |_| {
+        let draft = small_draft(rng);
+        jumbled(&draft, &tags, rng)
+    });
 }
 
 /// A small committee with some noise.
@@ -273,9 +278,8 @@ pub fn spliced(log: &[u8], rng: &mut Rng) -> Vec<u8> {
     [head, tail].concat()
 }
 
-/// A setup, then records of these tags with numbers from a short list.
-pub fn jumbled(tags: &[Tag], rng: &mut Rng) -> Vec<u8> {
-    let draft = small_draft(rng);
+/// A draft's setup, then records of these tags with numbers from a short list.
+pub fn jumbled(draft: &Draft, tags: &[Tag], rng: &mut Rng) -> Vec<u8> {
     let numbers = [1, 4, 16, 64, 0, Q - 1, 5, Q, P - 1, P];
     let mut log = draft.committee.su();
     for _ in 0..rng.between(20, 80) {

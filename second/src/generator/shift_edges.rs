@@ -84,7 +84,10 @@ pub fn senseless_logs(gathered: &mut LogSet, rng: &mut Rng) {
         spliced(&log, rng)
     });
     let tags = [Tag::De, Tag::De, Tag::Ve, Tag::Ve, Tag::Ch, Tag::Cs, Tag::Cs, Tag::Re];
-    gathered.add_many("shift-jumbled", 16, |_| jumbled(&tags, rng));
+    gathered.add_many("shift-jumbled", 16, |_| {
+        let draft = small_draft(rng);
+        jumbled(&draft, &tags, rng)
+    });
 }
 
 /// A small complete log with a shift and some noise.

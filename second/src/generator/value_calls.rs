@@ -1,6 +1,6 @@
 //! Requests to the writers of SU and DE, which are given values alone.
 
-use super::committee::{as_bytes, as_numbers, random_params, Committee};
+use super::committee::{as_bytes, as_numbers, random_params, Committee, Triple};
 use super::request_set::{
     some_params, spoil_buffer, spoil_count, spoil_value, too_large, RequestSet,
 };
@@ -10,14 +10,12 @@ use crate::records::{setup_length, Tag};
 use crate::requests::{Call, Request};
 use crate::rng::Rng;
 
-/// n, t and a.
-type Triple = (u8, u8, u8);
-
-/// Parameters on the inner side of a bound.
+/// Parameters on the inner side of a bound of document 01.
 const INSIDE: [Triple; 6] =
     [(4, 1, 1), (32, 1, 1), (32, 1, 15), (31, 10, 1), (9, 2, 2), (14, 3, 3)];
 
-/// Parameters on the outer side of a bound, or far outside.
+/// Parameters on the outer side of a bound of document 01, or far outside. Request
+/// 2.2 lets 33,1,1 in.
 const OUTSIDE: [Triple; 12] = [
     (3, 1, 1),
     (33, 1, 1),
@@ -44,19 +42,19 @@ fn su_request(params: Triple, s: u32, key_values: Vec<u32>, buffer_length: usize
     Request { call, buffer_length: buffer_length as u16 }
 }
 
-fn de_request(params: Triple, i: u8, values: Vec<u32>, buffer_length: usize) -> Request {
+pub fn de_request(params: Triple, i: u8, values: Vec<u32>, buffer_length: usize) -> Request {
     let call = Call::De { params, i, values };
     Request { call, buffer_length: buffer_length as u16 }
 }
 
-fn good_su(params: Params, rng: &mut Rng) -> Request {
+pub fn good_su(params: Params, rng: &mut Rng) -> Request {
     let committee = Committee::random(params, rng);
     let key_values = as_numbers(&committee.key_values);
     let length = Tag::Su.length(&params);
     su_request(as_bytes(params), committee.secret.number(), key_values, length)
 }
 
-fn good_de(params: Params, rng: &mut Rng) -> Request {
+pub fn good_de(params: Params, rng: &mut Rng) -> Request {
     let i = rng.between(1, params.n);
     let values = as_numbers(&Committee::random(params, rng).dealings[0]);
     de_request(as_bytes(params), i as u8, values, Tag::De.length(&params))
@@ -65,20 +63,19 @@ fn good_de(params: Params, rng: &mut Rng) -> Request {
 pub fn su_requests(gathered: &mut RequestSet, rng: &mut Rng) {
     for params in some_params() {
         let good = good_su(params, rng);
-        gathered
-            .add_spoiled(&good, &[4, 10, 6, 9], |request, number| spoil_su(request, number, rng));
+        su_spoiled(gathered, &good, &OUTSIDE, rng);
         gathered.add(good, 0);
         let other = random_params(None, rng);
         gathered.add(good_su(other, rng), 0);
     }
-    su_bounds(gathered);
+    su_bounds(gathered, &INSIDE, &OUTSIDE);
     su_values(gathered);
 }
 
 /// Both sides of each bound.
-fn su_bounds(gathered: &mut RequestSet) {
-    let inside = INSIDE.into_iter().map(|triple| (triple, 0));
-    let outside = OUTSIDE.into_iter().map(|triple| (triple, 4));
+pub fn su_bounds(gathered: &mut RequestSet, inside: &[Triple], outside: &[Triple]) {
+    let inside = inside.iter().map(|&triple| (triple, 0));
+    let outside = outside.iter().map(|&triple| (triple, 4));
     for (triple, number) in inside.chain(outside) {
         let t = triple.1;
         let request = su_request(triple, 5, vec![6; usize::from(t)], setup_length(t));
@@ -100,11 +97,18 @@ fn su_values(gathered: &mut RequestSet) {
     }
 }
 
+/// A good request to the SU writer spoiled in every choice of ways.
+pub fn su_spoiled(gathered: &mut RequestSet, good: &Request, outside: &[Triple], rng: &mut Rng) {
+    gathered.add_spoiled(good, &[4, 10, 6, 9], |request, number| {
+        spoil_su(request, number, outside, rng);
+    });
+}
+
 /// Makes an SU request one that must be refused so.
-fn spoil_su(request: &mut Request, number: u8, rng: &mut Rng) {
+fn spoil_su(request: &mut Request, number: u8, outside: &[Triple], rng: &mut Rng) {
     let Call::Su { params, s, key_values } = &mut request.call else { panic!("not SU") };
     match number {
-        4 => *params = rng.pick(&OUTSIDE),
+        4 => *params = rng.pick(outside),
         10 => spoil_count(key_values, rng),
         6 if rng.chance(50) => *s = too_large(rng),
         6 => spoil_value(key_values, rng),
@@ -120,20 +124,19 @@ pub fn de_requests(gathered: &mut RequestSet, rng: &mut Rng) {
     }
     for params in &some_params()[1..3] {
         let good = good_de(*params, rng);
-        let order = [4, 5, 10, 6, 9];
-        gathered.add_spoiled(&good, &order, |request, number| spoil_de(request, number, rng));
+        de_spoiled(gathered, &good, &OUTSIDE, rng);
     }
-    de_bounds(gathered, rng);
+    de_bounds(gathered, &INSIDE, &OUTSIDE, rng);
     de_values(gathered);
 }
 
 /// Both sides of each bound.
-fn de_bounds(gathered: &mut RequestSet, rng: &mut Rng) {
-    for (n, t, a) in INSIDE {
+pub fn de_bounds(gathered: &mut RequestSet, inside: &[Triple], outside: &[Triple], rng: &mut Rng) {
+    for &(n, t, a) in inside {
         let params = Params::new(n, t, a).expect("within the bounds");
         gathered.add(good_de(params, rng), 0);
     }
-    for triple in OUTSIDE {
+    for &triple in outside {
         gathered.add(de_request(triple, 1, vec![1; 4], 44), 4);
     }
 }
@@ -156,11 +159,18 @@ fn de_values(gathered: &mut RequestSet) {
     }
 }
 
+/// A good request to the DE writer spoiled in every choice of ways.
+pub fn de_spoiled(gathered: &mut RequestSet, good: &Request, outside: &[Triple], rng: &mut Rng) {
+    gathered.add_spoiled(good, &[4, 5, 10, 6, 9], |request, number| {
+        spoil_de(request, number, outside, rng);
+    });
+}
+
 /// Makes a DE request one that must be refused so.
-fn spoil_de(request: &mut Request, number: u8, rng: &mut Rng) {
+fn spoil_de(request: &mut Request, number: u8, outside: &[Triple], rng: &mut Rng) {
     let Call::De { params, i, values } = &mut request.call else { panic!("not DE") };
     match number {
-        4 => *params = rng.pick(&OUTSIDE),
+        4 => *params = rng.pick(outside),
         5 => *i = rng.pick(&[0, params.0 + 1, 255]),
         10 => spoil_count(values, rng),
         6 => spoil_value(values, rng),
