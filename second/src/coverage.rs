@@ -50,11 +50,10 @@ impl Coverage {
     }
 
     fn add_shifts(&mut self, reading: &Reading) {
-        for (_, answer) in reading.answers.iter().filter(|(tag, _)| *tag == Some(Tag::Cs)) {
-            *self.shift_answers.entry(answer_number(*answer)).or_default() += 1;
+        for given in reading.answers.iter().filter(|given| given.tag == Some(Tag::Cs)) {
+            *self.shift_answers.entry(answer_number(given.answer)).or_default() += 1;
         }
-        let accepted = reading.answers.contains(&(Some(Tag::Cs), Ok(())));
-        if accepted && reading.run.stage == Stage::Done {
+        if reading.accepted(Tag::Cs) && reading.run.stage == Stage::Done {
             let kind = if reading.run.shift == Scalar::ZERO { UNSHIFTED } else { SHIFTED };
             *self.done_by_shift.entry(kind).or_default() += 1;
         }

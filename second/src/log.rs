@@ -4,20 +4,36 @@
 use crate::records::{setup_length, Tag};
 use crate::refusal::Refusal;
 use crate::run::{Run, Stage};
+use std::ops::Range;
 
 /// What reading a log leaves behind.
 #[derive(Clone, Debug)]
 pub struct Reading {
     pub run: Run,
-    /// Each record's tag, if it has one, and the run's answer to it.
-    pub answers: Vec<(Option<Tag>, Result<(), Refusal>)>,
+    /// What became of each record.
+    pub answers: Vec<Given>,
+}
+
+/// A record of a log, given to the run.
+#[derive(Clone, Debug)]
+pub struct Given {
+    /// Where it stands in the log.
+    pub place: Range<usize>,
+    pub tag: Option<Tag>,
+    /// The run's answer.
+    pub answer: Result<(), Refusal>,
 }
 
 impl Reading {
     /// The refused records, by position in the log counted from 1.
     pub fn refused(&self) -> impl Iterator<Item = (usize, Refusal)> + '_ {
         let numbered = (1..).zip(&self.answers);
-        numbered.filter_map(|(position, (_, answer))| Some((position, answer.err()?)))
+        numbered.filter_map(|(position, given)| Some((position, given.answer.err()?)))
+    }
+
+    /// Was a record of this tag accepted?
+    pub fn accepted(&self, tag: Tag) -> bool {
+        self.answers.iter().any(|given| given.tag == Some(tag) && given.answer.is_ok())
     }
 }
 
@@ -28,7 +44,9 @@ pub fn read_log(log: &[u8]) -> Reading {
     while !rest.is_empty() {
         let (record, after) = cut(&reading.run, rest);
         let answer = reading.run.give(record);
-        reading.answers.push((Tag::of(record), answer));
+        let end = log.len() - after.len();
+        let place = end - record.len()..end;
+        reading.answers.push(Given { place, tag: Tag::of(record), answer });
         rest = after;
     }
     reading
