@@ -1,7 +1,8 @@
 //! Every kind of log: those of document 01, committees that run their course
-//! with and without faults, logs at the limits of the format (in `edges`), and
-//! logs with CS (in `shifts` and `shift_edges`). New kinds stand last, so that
-//! the others keep their places and bytes.
+//! with and without faults, logs at the limits of the format (in `edges`), logs
+//! with CS (in `shifts` and `shift_edges`), and logs of more than 32 parties (in
+//! `wide`, `wide_masks` and `wide_edges`). New kinds stand last, so that the
+//! others keep their places and bytes.
 
 use super::committee::random_params;
 use super::course::{completed, with_every_fault};
@@ -9,7 +10,7 @@ use super::document;
 use super::draft::Draft;
 use super::edges;
 use super::log_set::{LogSet, NamedLog};
-use super::{shift_edges, shifts};
+use super::{shift_edges, shifts, wide, wide_edges, wide_masks};
 use crate::params::{Params, MOST_NARROW};
 use crate::rng::Rng;
 use crate::run::Stage;
@@ -41,6 +42,16 @@ pub fn all_logs(seed: u64) -> Vec<NamedLog> {
         shift_edges::cut_logs,
         shift_edges::length_logs,
         shift_edges::senseless_logs,
+        wide::setup_logs,
+        wide::complete_logs,
+        wide::fault_logs,
+        wide_masks::bit_logs,
+        wide_masks::order_logs,
+        wide_masks::set_logs,
+        wide_edges::width_logs,
+        wide_edges::cut_logs,
+        wide_edges::size_logs,
+        wide_edges::changed_logs,
     ];
     for group in groups {
         group(&mut gathered, &mut rng);

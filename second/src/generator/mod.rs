@@ -8,7 +8,8 @@
 //! - `spoil`: records made to be refused with an intended number
 //! - `course`: a draft that goes on, with refused records in between
 //! - `log_set`: logs gathered by kind
-//! - `edges`, `shifts`, `shift_edges`, `logs`: every kind of log
+//! - `edges`, `shifts`, `shift_edges`, `wide`, `wide_masks`, `wide_edges`, `logs`:
+//!   every kind of log
 //! - `request_set`: writer requests gathered, each with its intended number
 //! - `document_calls`, `value_calls`, `run_calls`, `shift_calls`: every kind of
 //!   writer request
@@ -33,3 +34,6 @@ pub mod shift_edges;
 pub mod shifts;
 pub mod spoil;
 pub mod value_calls;
+pub mod wide;
+pub mod wide_edges;
+pub mod wide_masks;
