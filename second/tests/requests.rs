@@ -5,6 +5,13 @@ use second::generator::calls::{all_requests, in_streams, requests_with_shifts};
 use second::generator::document::{response, up_to_challenges, up_to_dealings};
 use second::requests::{answer_stream, framed, Call, Request, LONGEST_STREAM};
 use std::collections::BTreeSet;
+use std::sync::OnceLock;
+
+/// The requests of seed 1, made once.
+fn requests() -> &'static [Request] {
+    static REQUESTS: OnceLock<Vec<Request>> = OnceLock::new();
+    REQUESTS.get_or_init(|| all_requests(1))
+}
 
 /// A good request, with its answer.
 fn setup() -> (Vec<u8>, &'static str) {
@@ -37,9 +44,8 @@ fn a_refusal_leaves_the_buffer() {
 /// The first requests give the records of the worked log, CH aside.
 #[test]
 fn the_worked_log_is_written() {
-    let requests = all_requests(1);
     let written = |range: std::ops::Range<usize>| -> Vec<u8> {
-        requests[range].iter().flat_map(|request| request.answer().1).collect()
+        requests()[range].iter().flat_map(|request| request.answer().1).collect()
     };
     let dealt = up_to_dealings(1, 4);
     assert_eq!(written(0..4), dealt);
@@ -49,9 +55,10 @@ fn the_worked_log_is_written() {
 
 #[test]
 fn streams_are_read_as_written() {
-    let requests = all_requests(1);
-    let lines: String = requests.iter().map(Request::answer_line).collect();
-    let read: String = in_streams(&requests).iter().map(|stream| answer_stream(stream)).collect();
+    let lines: String = requests().iter().map(Request::answer_line).collect();
+    let streams = in_streams(requests());
+    assert!(streams.iter().all(|stream| stream.len() <= LONGEST_STREAM));
+    let read: String = streams.iter().map(|stream| answer_stream(stream)).collect();
     assert_eq!(read, lines);
 }
 
@@ -103,9 +110,8 @@ fn broken_streams_say_so() {
 #[test]
 fn every_writer_gives_every_number_it_has() {
     let mut found = BTreeSet::new();
-    let requests = all_requests(1);
-    assert!(requests.len() >= 300);
-    for request in &requests {
+    assert!(requests().len() >= 300);
+    for request in requests() {
         let writer = request.encode()[0];
         found.insert((writer, request.answer().0));
     }

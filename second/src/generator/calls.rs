@@ -6,34 +6,50 @@ use super::request_set::RequestSet;
 use super::run_calls::{re_requests, ve_requests};
 use super::shift_calls::shift_requests;
 use super::value_calls::{de_requests, su_requests};
-use crate::requests::{framed, Request};
+use super::wide_calls::wide_requests;
+use crate::requests::{framed, Request, LONGEST_STREAM};
 use crate::rng::Rng;
 
-/// How many requests stand in one stream.
+/// How many requests stand in one stream at most.
 const STREAM_LENGTH: usize = 10;
 
 /// The streams that a seed gives, as bytes. The first is the same for every seed.
-/// Those with CS stand last, so that the others keep their places and bytes.
+/// New ones stand last, so that the others keep their places and bytes.
 pub fn all_streams(seed: u64) -> Vec<Vec<u8>> {
     let mut streams = vec![mixed_stream()];
     streams.extend(in_streams(&first_requests(seed)));
     streams.extend(broken_streams());
     streams.extend(in_streams(&requests_with_shifts(seed)));
+    streams.extend(in_streams(&requests_above_32(seed)));
     streams
 }
 
 /// Streams of whole requests.
 pub fn in_streams(requests: &[Request]) -> Vec<Vec<u8>> {
-    let encode = |request: &Request| framed(&request.encode());
-    requests.chunks(STREAM_LENGTH).map(|stream| stream.iter().flat_map(encode).collect()).collect()
+    requests.chunks(STREAM_LENGTH).flat_map(not_too_long).collect()
+}
+
+/// The requests in one stream, or in more where one would be too long.
+fn not_too_long(requests: &[Request]) -> Vec<Vec<u8>> {
+    let mut streams = Vec::new();
+    let mut stream = Vec::new();
+    for request in requests {
+        let bytes = framed(&request.encode());
+        if stream.len() + bytes.len() > LONGEST_STREAM {
+            streams.push(std::mem::take(&mut stream));
+        }
+        stream.extend(bytes);
+    }
+    streams.push(stream);
+    streams
 }
 
 /// Every whole request that a seed gives.
 pub fn all_requests(seed: u64) -> Vec<Request> {
-    [first_requests(seed), requests_with_shifts(seed)].concat()
+    [first_requests(seed), requests_with_shifts(seed), requests_above_32(seed)].concat()
 }
 
-/// Those without CS in their logs.
+/// Those of document 01.
 fn first_requests(seed: u64) -> Vec<Request> {
     let mut rng = Rng::new(seed);
     let mut gathered = RequestSet::default();
@@ -47,5 +63,12 @@ fn first_requests(seed: u64) -> Vec<Request> {
 pub fn requests_with_shifts(seed: u64) -> Vec<Request> {
     let mut gathered = RequestSet::default();
     shift_requests(&mut gathered, &mut Rng::new(seed));
+    gathered.requests
+}
+
+/// Those of more than 32 parties.
+pub fn requests_above_32(seed: u64) -> Vec<Request> {
+    let mut gathered = RequestSet::default();
+    wide_requests(&mut gathered, &mut Rng::new(seed));
     gathered.requests
 }

@@ -11,8 +11,8 @@
 //! - `edges`, `shifts`, `shift_edges`, `wide`, `wide_masks`, `wide_edges`, `logs`:
 //!   every kind of log
 //! - `request_set`: writer requests gathered, each with its intended number
-//! - `document_calls`, `value_calls`, `run_calls`, `shift_calls`: every kind of
-//!   writer request
+//! - `document_calls`, `value_calls`, `run_calls`, `shift_calls`, `wide_calls`:
+//!   every kind of writer request
 //! - `broken_calls`: broken requests, and streams that are cut or too long
 //! - `calls`: every stream
 
@@ -35,5 +35,6 @@ pub mod shifts;
 pub mod spoil;
 pub mod value_calls;
 pub mod wide;
+pub mod wide_calls;
 pub mod wide_edges;
 pub mod wide_masks;
