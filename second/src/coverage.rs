@@ -1,5 +1,5 @@
-//! Which refusal numbers and last stages a set of logs reaches, and what becomes
-//! of the CS records in it.
+//! Which refusal numbers and last stages a set of logs reaches, what becomes of
+//! the CS records in it, and what it shows of 31 to 64 parties.
 
 use crate::arith::Scalar;
 use crate::log::{read_log, Reading};
@@ -7,7 +7,8 @@ use crate::records::Tag;
 use crate::refusal::answer_number;
 use crate::report::LONGEST_LOG;
 use crate::run::Stage;
-use std::collections::BTreeMap;
+use crate::wide_coverage;
+use std::collections::{BTreeMap, BTreeSet};
 
 /// The numbers with which a record can be refused.
 const RECORD_REFUSALS: [u8; 13] = [1, 2, 3, 4, 5, 6, 7, 8, 11, 12, 13, 14, 15];
@@ -32,6 +33,8 @@ pub struct Coverage {
     pub shift_answers: BTreeMap<u8, usize>,
     /// How many logs ended at stage 5 after an accepted CS, by kind of shift.
     pub done_by_shift: BTreeMap<&'static str, usize>,
+    /// What some log shows of 31 to 64 parties, in words.
+    pub wide: BTreeSet<String>,
 }
 
 impl Coverage {
@@ -47,6 +50,7 @@ impl Coverage {
             *self.refusals.entry(refusal.number()).or_default() += 1;
         }
         self.add_shifts(&reading);
+        self.wide.extend(wide_coverage::shown(log, &reading));
     }
 
     fn add_shifts(&mut self, reading: &Reading) {
@@ -68,7 +72,14 @@ impl Coverage {
         let kinds = [UNSHIFTED, SHIFTED].into_iter();
         let never = kinds.filter(|kind| !self.done_by_shift.contains_key(kind));
         missing.extend(never.map(str::to_string));
+        missing.extend(self.missing_wide());
         missing
+    }
+
+    /// What is never shown of 31 to 64 parties.
+    pub fn missing_wide(&self) -> Vec<String> {
+        let wanted = wide_coverage::wanted().into_iter();
+        wanted.filter(|what| !self.wide.contains(what)).collect()
     }
 
     /// The counts and whatever is missing, a line each.
@@ -78,6 +89,9 @@ impl Coverage {
         lines.extend(counted("stage", &self.stages));
         lines.extend(counted("CS answered", &self.shift_answers));
         lines.extend(self.done_by_shift.iter().map(|(kind, count)| format!("{kind}: {count}")));
+        let wanted = wide_coverage::wanted().len();
+        let shown = wanted - self.missing_wide().len();
+        lines.push(format!("shown of 31 to 64 parties: {shown} of {wanted}"));
         lines.extend(self.missing().iter().map(|what| format!("missing {what}")));
         lines
     }

@@ -12,7 +12,8 @@
 //! - `run`: the stages
 //! - `log`, `report`: cutting a log, printing its report
 //! - `writers`, `requests`: making records, and the stream that asks for them
-//! - `generator`, `rng`, `coverage`: logs and requests for the comparison
+//! - `generator`, `rng`: logs and requests for the comparison
+//! - `coverage`, `wide_coverage`: what the logs reach
 
 #![forbid(unsafe_code)]
 
@@ -28,4 +29,5 @@ pub mod requests;
 pub mod rng;
 pub mod run;
 pub mod weights;
+pub mod wide_coverage;
 pub mod writers;

@@ -17,7 +17,8 @@ const USAGE: &str = "usage:
   second requests DIR [--seed N]        write streams of writer requests
   second write < REQUESTS               answer a stream of writer requests
   second check-coverage DIR             name the refusals and stages the logs reach,
-                                        and the answers to CS";
+                                        the answers to CS, and what is missing of
+                                        31 to 64 parties";
 
 /// The seed when none is given.
 const DEFAULT_SEED: u64 = 1;

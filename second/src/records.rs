@@ -177,7 +177,7 @@ pub fn read_complaint(bytes: &[u8], params: &Params) -> Result<Complaint, Refusa
 
 /// The parties in a mask: its last byte holds 1 to 8, the lowest bit first, the
 /// byte before it 9 to 16, and so on.
-fn masked(mask: &[u8]) -> BTreeSet<Party> {
+pub fn masked(mask: &[u8]) -> BTreeSet<Party> {
     let bytes = (0..).zip(mask.iter().rev());
     let in_byte = |(place, byte): (Party, &u8)| {
         let (byte, before) = (*byte, 8 * place);

@@ -5,6 +5,7 @@ use second::generator::document::{plain_setup, record, shifted, up_to_challenges
 use second::generator::log_set::NamedLog;
 use second::generator::logs::all_logs;
 use second::report::{report, LONGEST_LOG};
+use second::wide_coverage::wanted;
 use std::sync::OnceLock;
 
 /// The logs of seed 1, made once.
@@ -96,21 +97,53 @@ fn generated_logs_cover_everything() {
     assert_eq!(coverage.missing(), Vec::<String>::new());
 }
 
+/// What the logs reach whose kinds have none of these words.
+fn coverage_without(words: &[&str]) -> Coverage {
+    let mut coverage = Coverage::default();
+    for log in logs().iter().filter(|log| !words.iter().any(|word| log.kind.contains(word))) {
+        coverage.add(&log.bytes);
+    }
+    coverage
+}
+
+/// What is missing, more than 32 parties aside.
+fn missing_else(coverage: &Coverage) -> Vec<String> {
+    let wide = coverage.missing_wide();
+    coverage.missing().into_iter().filter(|what| !wide.contains(what)).collect()
+}
+
 /// Without CS the coverage is not whole.
 #[test]
 fn shifts_are_asked_for() {
-    let mut coverage = Coverage::default();
-    for log in logs().iter().filter(|log| !log.kind.contains("shift") && !log.kind.contains("wide"))
-    {
-        coverage.add(&log.bytes);
-    }
+    let mut coverage = coverage_without(&["shift", "wide"]);
     let answers = [0, 11, 2, 3, 6].map(|number| format!("CS answered {number}"));
     let ends = ["done with the shift 0", "done with another shift"].map(str::to_string);
-    assert_eq!(coverage.missing(), [&answers[..], &ends].concat());
+    assert_eq!(missing_else(&coverage), [&answers[..], &ends].concat());
     coverage.add(&shifted(0));
-    assert_eq!(coverage.missing(), [&answers[1..], &ends[1..]].concat());
+    assert_eq!(missing_else(&coverage), [&answers[1..], &ends[1..]].concat());
     coverage.add(&shifted(5));
-    assert_eq!(coverage.missing(), answers[1..]);
+    assert_eq!(missing_else(&coverage), answers[1..]);
+}
+
+/// Without logs of more than 32 parties the coverage is not whole: but for what
+/// one log of setups shows, all is missing that it asks of 33, 63 and 64 parties.
+#[test]
+fn more_than_32_parties_are_asked_for() {
+    let mut coverage = coverage_without(&["wide"]);
+    assert_eq!(missing_else(&coverage), Vec::<String>::new());
+    let missing = coverage.missing_wide();
+    let of_more = |what: &String| {
+        ["33 parties", "63 parties", "64 parties", "above 32"].iter().any(|of| what.contains(of))
+    };
+    let shown = wanted().into_iter().filter(|what| of_more(what) && !missing.contains(what));
+    let by_setups = [("SU", 11), ("SU", 4), ("DE", 6)]
+        .map(|(tag, number)| format!("{tag} answered {number} with 33 parties"));
+    assert_eq!(shown.collect::<Vec<String>>(), by_setups);
+    let done = "64 parties done after CS".to_string();
+    assert!(missing.contains(&done));
+    let log = logs().iter().find(|log| log.kind == "wide-shifted-64-15-10").expect("such a log");
+    coverage.add(&log.bytes);
+    assert!(!coverage.missing_wide().contains(&done));
 }
 
 #[test]
@@ -122,6 +155,10 @@ fn large_committees_are_completed() {
         "size-ends-done",
         "shift-complete-32-1-15",
         "shift-complete-32-10-1",
+        "wide-complete",
+        "wide-shifted",
+        "wide-bad-at-limit",
+        "wide-size-65536",
     ] {
         for log in logs().iter().filter(|log| log.kind.starts_with(kind)) {
             assert!(report(&log.bytes).ends_with("end 5\n"), "{kind}");
