@@ -191,6 +191,19 @@ fn shifted() {
     say(respond(run));
 }
 
+// Committees of 33 and 64 parties within the bounds, of 65 and 64 outside, and of four parties a complaint row as long as those of 33.
+fn wide() {
+    let fresh = Run::fresh();
+    begin_line(b"wide ");
+    give(fresh, b"SU\x21\x01\x0f\x00\x00\x00\x00\x04\x00\x00\x00\x10");
+    give(fresh, b"SU\x40\x01\x1f\x00\x00\x00\x00\x04\x00\x00\x00\x10");
+    give(fresh, b"SU\x41\x01\x01\x00\x00\x00\x00\x04\x00\x00\x00\x10");
+    give(fresh, b"SU\x40\x01\x20\x00\x00\x00\x00\x04\x00\x00\x00\x10");
+    let dealt = deal(true, true);
+    give(dealt, b"VE\x02\x00\x00\x00\x00\x00\x00\x00\x00\x00");
+    end_line();
+}
+
 // Records that are none: no byte, one byte, a tag alone, no tag, and a setup that is late.
 fn senseless() {
     begin_line(b"none ");
@@ -212,5 +225,6 @@ fn main() {
     arithmetic();
     too_many_blamed();
     shifted();
+    wide();
     senseless();
 }
