@@ -61,7 +61,7 @@ returns : tie.Need-returns
 unfolding numberAt wideAt
 returns c =
     let first = c .before .before .before in
-    rw (first .byte .ensures, c .before .before .byte2 .ensures, c .before .byte3 .ensures, c .byte4 .ensures, add-zero (first .before .before .args .at)) (omega arith)
+    rw (add-zero (first .before .before .args .at)) (omega (arith, first .byte .ensures, c .before .before .byte2 .ensures, c .before .byte3 .ensures, c .byte4 .ensures))
 
 pub number-spec : {M : Type 1} → statement M
 number-spec =
