@@ -8,7 +8,7 @@ use Rattle.sets.specs.Masks.{has}
 use Rattle.parameters.specs.Definitions.{quorum}
 use Rattle.records.specs.Bytes.{sender}
 use Rattle.records.specs.Tags.{tagOf}
-use Rattle.refusals.specs.Refusals.{setupRefusal, dealingRefusal, complaintRefusal, challengesRefusal, shiftedRefusal, responseRefusal}
+use Rattle.refusals.specs.Refusals.{setupRefusal, complaintRefusal, challengesRefusal, shiftedRefusal, responseRefusal}
 use Rattle.dealing.specs.Definitions.{setupOf, dealingNumber, withDealing}
 use Rattle.complaint.specs.Definitions.{complaintNumber, withComplaint, complaintStage}
 use Rattle.response.specs.Definitions.{responseNumber, withResponse, signaturesOf}
@@ -89,7 +89,7 @@ stepOf r s = handled (handlerAt (tagOf s) (stageOf r)) r s
 -- a refusal that needs none of the run's lists, or 0: every number but 13 and 15
 unfoldable pub untakenBy : Handler → Run → List ℕ → ℕ
 untakenBy TakeSetup r s = setupRefusal s
-untakenBy TakeDealing r s = orNext (dealingRefusal (r .setup .n) (r .setup .t) (r .setup .a) s) (require (not (has (r .dealings .dealers) (sender s))) 12 0)
+untakenBy TakeDealing r s = dealingNumber (r .setup) (r .dealings) s
 untakenBy TakeComplaint r s = orNext (complaintRefusal (r .setup .n) s) (require (not (has (r .complaints .holders) (sender s))) 12 0)
 untakenBy TakeChallenges r s = challengesRefusal (r .setup .n) (r .setup .t) (r .setup .a) s
 untakenBy TakeShifted r s = shiftedRefusal (r .setup .n) (r .setup .t) (r .setup .a) s

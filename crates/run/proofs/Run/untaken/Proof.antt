@@ -1,6 +1,7 @@
 -- `Run::untaken` meets its contract: for each handler the refusals that need no list of the run. Assumes nothing.
 use borrow.Author.Needs.{needs}
 use mathlib.Core.Path.{_≡_, sym, ap, _∙_}
+use Rattle.dealing.specs.Definitions.{dealingNumber}
 use Rattle.stages.specs.declared.Handler.{Handler}
 use Rattle.run.specs.Steps.{untakenBy, untaken}
 use Rattle.run.proofs.Stages.{untaken-by}
@@ -96,7 +97,7 @@ unfolding untakenBy
 returns c = c .setup-refusal .ensures ∙ answer (c .before .before .before) (c .before .enum-told .given .1)
 
 returns-2 : tie.Need-returns-2
-unfolding untakenBy
+unfolding untakenBy dealingNumber
 returns-2 c =
     let refusal = c .before .before in
     let told = refusal .before in
