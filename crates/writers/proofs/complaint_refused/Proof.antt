@@ -3,6 +3,7 @@ use borrow.Author.Needs.{needs}
 use mathlib.Core.Path.{_≡_}
 use mathlib.Core.Bool.{false}
 use lib.Dec.{eqb}
+use Rattle.records.specs.Tags.{complaintLength}
 use Rattle.run.specs.Runs.{stageOf}
 use Rattle.lists.specs.Tests.{require}
 use Rattle.lists.specs.CallLaws.{holds, fails, equals, differs, is, is-not}
@@ -36,11 +37,9 @@ unfolding complaintRefused require
 returns-3 c =
     let party = c .before .before in
     let stage = party .before .before in
-    rw (
-      is (stage .before .stage-of .ensures) (stage .if1 .left),
-      holds (party .before .is-party .ensures) (party .if2 .left),
-      differs (c .before .complaint-length .ensures) (c .if3 .taken),
-    )
+    let a = stage .before .before .args in
+    let other : eqb (a .room) (complaintLength (a .run .setup .n)) ≡ false = differs (c .before .complaint-length .ensures) (c .if3 .taken) in
+    rw (is (stage .before .stage-of .ensures) (stage .if1 .left), holds (party .before .is-party .ensures) (party .if2 .left), other)
 
 returns-4 : tie.Need-returns-4
 unfolding complaintRefused require
