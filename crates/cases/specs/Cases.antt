@@ -1,4 +1,4 @@
--- The worked log of document 01 and its cases A to L, and those of document 02 (the shift, 64 parties), one list with the expected answers, and one fact over it.
+-- The worked log of document 01 and its cases A to L, and those of document 02 (the shift, 64 parties, the identity as key), one list with the expected answers, and one fact over it.
 -- Assumes nothing.
 use Prim.Native.Nat.{ℕ, zero, suc, _+_, _/_, _%_}
 use mathlib.Core.Path.{_≡_, refl}
@@ -14,6 +14,7 @@ use Rattle.run.specs.declared.Run.{Run}
 use Rattle.run.specs.Runs.{transcriptOf, kept}
 use Rattle.run.specs.Steps.{stepOf, after}
 use Rattle.answers.specs.Answers.{setsOf}
+use Rattle.dealer.specs.Dealt.{setupRefused}
 use Rattle.log.specs.Report.{reportOf}
 use Rattle.cases.specs.Opened.{opened}
 
@@ -100,6 +101,10 @@ answer l s = stepOf (after l) s .number ∷ []
 
 test : Bool → List ℕ
 test b = pick b (1 ∷ []) (0 ∷ [])
+
+-- the answer of the SU writer for 4,1,1 and one share
+written : ℕ → ℕ → ℕ → List ℕ
+written s share room = setupRefused 4 1 1 s (share ∷ []) room ∷ []
 
 -- the page of a list of records, end to end
 page : List (List ℕ) → List (List ℕ)
@@ -198,9 +203,26 @@ cases =
           ∷ answer (dealt 1 4) (wide 2 0 0) ∷ [],
       (0 ∷ []) ∷ (8 ∷ []) ∷ (13 ∷ []) ∷ (2 ∷ []) ∷ (2 ∷ []) ∷ [],
     )
+    -- document 02, request 2.3: S = 1 refused 16; with an S_1 of 0 or P-1 beside it 7; outside the bounds 4; in a run that has a setup 11. S = P-1 is no
+    -- element (7), and S = P+1 neither. S = 4 with S_1 = 1 accepted, and then a dealing that commits to 1 alone
+    ∷ (
+      answer [] (setup 4 1 1 (1 ∷ 16 ∷ []))
+          ∷ answer [] (setup 4 1 1 (1 ∷ 0 ∷ [])) ∷ answer [] (setup 4 1 1 (1 ∷ 1000000006 ∷ []))
+          ∷ answer [] (setup 3 1 1 (1 ∷ 16 ∷ [])) ∷ answer (su ∷ []) (setup 4 1 1 (1 ∷ 16 ∷ []))
+          ∷ answer [] (setup 4 1 1 (1000000006 ∷ 16 ∷ [])) ∷ answer [] (setup 4 1 1 (1000000008 ∷ 16 ∷ []))
+          ∷ answer [] (setup 4 1 1 (4 ∷ 1 ∷ [])) ∷ answer (setup 4 1 1 (4 ∷ 1 ∷ []) ∷ []) (dealing 1 (1 ∷ 1 ∷ noughts 4)) ∷ [],
+      (16 ∷ []) ∷ (7 ∷ []) ∷ (7 ∷ []) ∷ (4 ∷ []) ∷ (11 ∷ []) ∷ (7 ∷ []) ∷ (7 ∷ []) ∷ (0 ∷ []) ∷ (0 ∷ []) ∷ [],
+    )
+    -- the SU writer: s = 0 refused 16, in a buffer of another length too; beside a share of q, and s = q, 6; with two shares 10; s = 1 in a buffer of
+    -- another length 9, in its own accepted, with a share of 0 too
+    ∷ (
+      written 0 5 14 ∷ written 0 5 15 ∷ written 0 500000003 14 ∷ written 500000003 5 14 ∷ (setupRefused 4 1 1 0 (5 ∷ 5 ∷ []) 14 ∷ [])
+          ∷ written 1 5 15 ∷ written 1 5 14 ∷ written 1 0 14 ∷ [],
+      (16 ∷ []) ∷ (16 ∷ []) ∷ (6 ∷ []) ∷ (6 ∷ []) ∷ (10 ∷ []) ∷ (9 ∷ []) ∷ (0 ∷ []) ∷ (0 ∷ []) ∷ [],
+    )
     ∷ []
 
 -- every case comes out as the documents say
 computed : map (λ c. c .0) cases ≡ map (λ c. c .1) cases
-unfolding opened four fours setup dealing complaint wide noughts dealtFrom dealtBy33 challenges shifted response su dealt held challenged signedBy said answer test cases worked page workedPage shiftedPage
+unfolding opened four fours setup dealing complaint wide noughts dealtFrom dealtBy33 challenges shifted response su dealt held challenged signedBy said answer written test cases worked page workedPage shiftedPage
 computed = refl

@@ -5,7 +5,7 @@ use Rattle.algebra.specs.Fold.{fold}
 use Rattle.lists.specs.Tests.{allTo, require, orNext}
 use Rattle.lists.specs.Stores.{stored, filled}
 use Rattle.sets.specs.Masks.{bit, has, insert, minus, maskOf, membersFrom}
-use Rattle.field.specs.Definitions.{q, P, powerTo, powerOf, isScalar, isElement, reduced, plus, times, inverseTo, inverseOf, inverse, power, product, raise, sameElement, powered}
+use Rattle.field.specs.Definitions.{q, P, powerTo, powerOf, isScalar, readElement, someElement, theIdentity, isElement, isIdentity, reduced, plus, times, inverseTo, inverseOf, inverse, power, product, raise, sameElement, powered}
 use Rattle.field.specs.Definitions as F
 use Rattle.interpolation.specs.Definitions.{point, factor, weight, scalarAt, elementAt, party, slot, committedPoint}
 use Rattle.parameters.specs.Definitions.{inBounds, quorum, batch}
@@ -27,6 +27,7 @@ use Rattle.closing.specs.Closing.{signatureLine, signatureLines, closing}
 use Rattle.log.specs.Report.{refusalLine, refusalLines, reportOf}
 use Rattle.run.specs.Steps.{afterSetup, afterDealing, afterComplaint, afterChallenges, afterShifted, withRow, finished, afterResponse, handled, stepOf, afterFrom, after}
 use Rattle.stages.specs.Definitions.{takenAt, atStage, handlerAt}
+use Rattle.dealer.specs.Dealt.{setupRefused}
 
 -- `unfolding opened` opens what this line names
 unfoldable pub opened : Bool
@@ -35,7 +36,7 @@ unfolding flatten
     allTo require orNext
     stored filled
     bit has insert minus maskOf membersFrom
-    q P powerTo powerOf isScalar isElement reduced plus times inverseTo inverseOf inverse power product raise sameElement powered F.minus
+    q P powerTo powerOf isScalar readElement someElement theIdentity isElement isIdentity reduced plus times inverseTo inverseOf inverse power product raise sameElement powered F.minus
     point factor weight scalarAt elementAt party slot committedPoint
     inBounds quorum batch
     byteAt wideAt numberAt word
@@ -53,4 +54,5 @@ unfolding flatten
     signatureLine signatureLines closing
     refusalLine refusalLines reportOf
     afterSetup afterDealing afterComplaint afterChallenges afterShifted withRow finished afterResponse takenAt atStage handlerAt handled stepOf afterFrom after
+    setupRefused
 opened = true

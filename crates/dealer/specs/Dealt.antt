@@ -3,7 +3,7 @@ use Prim.Native.Nat.{ℕ, _+_}
 use mathlib.Core.Bool.{_&&_}
 use mathlib.Core.List.{List, _∷_, _++_}
 use lib.ListN.{length, getD}
-use lib.Dec.{eqb}
+use lib.Dec.{eqb, ltb}
 use Rattle.lists.specs.Tests.{allTo, require}
 use Rattle.field.specs.declared.Scalar.{Scalar}
 use Rattle.field.specs.Definitions.{scalar, isScalar}
@@ -12,14 +12,15 @@ use Rattle.parameters.specs.Definitions.{inBounds, quorum, isParty}
 use Rattle.records.specs.Tags.{letterD, letterE, letterS, letterU, setupLength, dealingLength}
 use Rattle.encoding.specs.Bytes.{four, fours, powerOfFour}
 
--- ---- SU, from n, t, a, s and F(1) to F(t)
+-- ---- SU, from n, t, a, s and F(1) to F(t); s is not 0 (document 02, request 2.3)
 
 unfoldable pub setupRefused : ℕ → ℕ → ℕ → ℕ → List ℕ → ℕ → ℕ
 setupRefused n t a s shares room =
     require (inBounds n t a) 4
     (require (eqb (length shares) t) 10
     (require (isScalar s && allTo t (λ j. isScalar (getD shares j 0))) 6
-    (require (eqb room (setupLength t)) 9 0)))
+    (require (ltb 0 s) 16
+    (require (eqb room (setupLength t)) 9 0))))
 
 unfoldable pub setupBytes : ℕ → ℕ → ℕ → ℕ → List ℕ → List ℕ
 setupBytes n t a s shares =

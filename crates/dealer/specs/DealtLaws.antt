@@ -17,7 +17,7 @@ use Rattle.records.specs.Tags.{letterD, letterE, letterS, letterU, setupLength,
 use Rattle.refusals.specs.Refusals.{setupRefusal, dealingRefusal}
 use Rattle.refusals.specs.RefusalLaws.{setup-passes, dealing-passes}
 use Rattle.encoding.specs.Bytes.{four, fours, powerOfFour}
-use Rattle.encoding.specs.ByteLaws.{power-lt, power-element, length-fours, word-fours, word-last, number-at}
+use Rattle.encoding.specs.ByteLaws.{power-lt, power-element, power-other, length-fours, word-fours, word-last, number-at}
 use Rattle.protocol.specs.Transcript.{dealingAt, validShare}
 use Rattle.dealer.specs.Dealt.{setupRefused, setupBytes, dealingRefused, shareFor, dealingBytes}
 use Rattle.dealer.specs.FitLaws.{setup-fits, dealing-fits}
@@ -43,10 +43,12 @@ module _ (n t a s : ℕ) (shares : List ℕ) where
 pub setup-unrefused : (n t a s : ℕ) (shares : List ℕ) (room : ℕ) → setupRefused n t a s shares room ≡ 0 → setupRefusal (setupBytes n t a s shares) ≡ 0
 unfolding setupBytes byteAt setupLength
 setup-unrefused n t a s shares room e =
+    let fits = setup-fits n t a s shares room e in
     setup-passes (setupBytes n t a s shares)
     (record {
-      bounds = setup-fits n t a s shares room e .bounds;
+      bounds = fits .bounds;
       elements = setup-element n t a s shares;
+      key = rw (setup-first n t a s shares) (power-other s (fits .key) (fits .key-pos));
       long = omega (arith, length-fours t (λ j. powerOfFour (getD shares j 0)));
       reserved = refl;
     })

@@ -4,9 +4,12 @@ use mathlib.Core.Path.{_≡_}
 use mathlib.Core.List.{List}
 use Prim.Native.Nat.{ℕ, _≤_, _<_}
 use native.Mathlib.Omega.{arith}
-use lib.ListN.{length}
-use borrow.Author.Tests.{eqb-true}
-use Rattle.lists.specs.TestLaws.{passed}
+use lib.ListN.{length, getD}
+use mathlib.Core.Bool.{true}
+use borrow.Author.Tests.{eqb-true, ltb-true}
+use Rattle.lists.specs.Tests.{allTo}
+use Rattle.lists.specs.TestLaws.{passed, and-left}
+use Rattle.field.specs.Definitions.{isScalar}
 use Rattle.parameters.specs.Definitions.{quorum}
 use Rattle.records.specs.Tags.{setupLength, dealingLength}
 use Rattle.parameters.specs.ParameterLaws.{Bounds, bounds-of, party-of}
@@ -14,19 +17,28 @@ use Rattle.dealer.specs.Dealt.{setupRefused, dealingRefused}
 
 -- ---- SU
 
-pub record SetupFits (n t a : ℕ) (shares : List ℕ) (room : ℕ) : Type 0 where
+pub record SetupFits (n t a s : ℕ) (shares : List ℕ) (room : ℕ) : Type 0 where
   pub bounds : Bounds n t a
   pub count : length shares ≡ t
+  pub key : isScalar s ≡ true
+  pub key-pos : 0 < s
   pub exact : room ≡ setupLength t
 
-pub setup-fits : (n t a s : ℕ) (shares : List ℕ) (room : ℕ) → setupRefused n t a s shares room ≡ 0 → SetupFits n t a shares room
+pub setup-fits : (n t a s : ℕ) (shares : List ℕ) (room : ℕ) → setupRefused n t a s shares room ≡ 0 → SetupFits n t a s shares room
 unfolding setupRefused
 setup-fits n t a s shares room e =
     let p = passed _ _ _ e (omega arith) in
     let q = passed _ _ _ (p .1) (omega arith) in
     let r = passed _ _ _ (q .1) (omega arith) in
     let v = passed _ _ _ (r .1) (omega arith) in
-    record { bounds = bounds-of n t a (p .0); count = eqb-true _ _ (search); exact = eqb-true _ _ (search) }
+    let w = passed _ _ _ (v .1) (omega arith) in
+    record {
+      bounds = bounds-of n t a (p .0);
+      count = eqb-true _ _ (search);
+      key = and-left (isScalar s) (allTo t (λ j. isScalar (getD shares j 0))) (search);
+      key-pos = ltb-true 0 s (search);
+      exact = eqb-true _ _ (search);
+    }
 
 -- ---- DE
 

@@ -57,13 +57,16 @@ fn setup_refused(n: u8, t: u8, a: u8, s: u32, shares: &[u32], room: usize) -> u8
     if !all_scalars(shares) {
         return 6;
     }
+    if s == 0 {
+        return 16;
+    }
     if room != records::setup_length(t) {
         return 9;
     }
     0
 }
 
-// SU, from n, t, a, s and F(1) to F(t).
+// SU, from n, t, a, s and F(1) to F(t). For s = 0 the key would be the identity.
 pub fn write_setup(n: u8, t: u8, a: u8, s: u32, shares: &[u32], out: &mut [u8]) -> u8
     ensures number { λ r. ⌜ r ≡ setupRefused n t a s (now (shares .entry)) (length (now (out .entry))) ⌝ }
     ensures bytes { λ r. ⌜ now (out .exit) ≡ pick (eqb r 0) (setupBytes n t a s (now (shares .entry))) (now (out .entry)) ⌝ }

@@ -2,7 +2,9 @@
 use console::end_line;
 use console::print_test;
 use field::Element;
+use field::Reading;
 use field::Scalar;
+use libc::STDOUT_FILENO;
 
 const COUNT: usize = 9;
 
@@ -10,11 +12,24 @@ fn print(x: u32) {
     console::print_number(x as u64);
 }
 
-// The number; whether it is a scalar, an element; its remainder, its inverse; its power 3; 4 to it.
+fn print_word(word: &[u8]) {
+    io::write_all(STDOUT_FILENO, word);
+}
+
+// A word for what a number is as an element.
+fn print_reading(reading: Reading) {
+    match reading {
+        Reading::NoElement => print_word(b"none "),
+        Reading::Identity => print_word(b"identity "),
+        Reading::Other => print_word(b"other "),
+    }
+}
+
+// The number; whether it is a scalar; what it is as an element; its remainder, its inverse; its power 3; 4 to it.
 fn single(x: u32) {
     print(x);
     print_test(Scalar::accepts(x));
-    print_test(Element::accepts(x));
+    print_reading(Element::read(x));
     print(Scalar::new(x).0);
     print(Scalar(x).inverse().0);
     print(Scalar(x).power(3).0);

@@ -1,17 +1,21 @@
 -- Laws of numbers as bytes: how long they are, and that what is read back is what was written.
 -- Assumes nothing.
 use mathlib.Core.Path.{_≡_, refl, sym, ap, _∙_}
-use mathlib.Core.Bool.{true}
+use mathlib.Core.Bool.{true, false}
 use mathlib.Core.List.{List, [], _++_, append-nil, append-assoc}
 use Prim.Native.Nat.{ℕ, zero, suc, _+_, _*_, _-_, _/_, _%_, _^_, _≤_, _<_}
 use native.Mathlib.Omega.{arith}
 use native.Mathlib.Nat.{add-zero, zero-add, add-assoc, div-one, div-eq-of-lt}
 use native.Mathlib.Decide.{ℕ-discrete}
+use borrow.Author.Tests.{ne-eqb}
 use lib.Pow.{shr-shr}
 use lib.ListN.{length, length-append}
 use lib.Seq.{getD-append-add}
-use Rattle.field.specs.Definitions.{scalar, generator, isElement, raise}
-use Rattle.field.specs.ElementLaws.{generator-element, raise-element, raise-below, below-word}
+use Rattle.field.specs.declared.Scalar.{Scalar}
+use Rattle.field.specs.declared.Element.{Element}
+use Rattle.field.specs.Definitions.{scalar, element, generator, isScalar, isElement, isIdentity, raise}
+use Rattle.field.specs.ElementLaws.{generator-element, generator-identity, raise-element, raise-below, below-word}
+use Rattle.field.specs.Readings.{identity-is}
 use Rattle.records.specs.Bytes.{byteAt, wideAt, numberAt, word}
 use Rattle.encoding.specs.Bytes.{bytesOf, four, fours, powerOfFour}
 
@@ -104,3 +108,12 @@ power-lt x = below-word (raise generator (scalar x)) (raise-below generator (sca
 
 pub power-element : (x : ℕ) → isElement (powerOfFour x) ≡ true
 power-element x = raise-element generator (scalar x) generator-element
+
+-- 4 to another scalar than 0 is not the identity
+pub power-other : (x : ℕ) → isScalar x ≡ true → 0 < x → isIdentity (powerOfFour x) ≡ false
+power-other x h p =
+    identity-is _
+    ∙ ne-eqb _ 1
+    (λ e.
+    let zero : x ≡ 0 = ap (λ (z : Scalar). z .0) (generator-identity (scalar x) h (ap element e)) in
+    omega arith)

@@ -1,11 +1,13 @@
 -- The two kinds of number, and what is done with them (document 01, "The bench and its two kinds of number").
 -- Every operation is total: it says what any two numbers give, in range or not.
 use Prim.Native.Nat.{ℕ, zero, suc, _+_, _*_, _-_, _/_, _%_, _^_, _<_}
-use mathlib.Core.Bool.{Bool, true, _&&_}
+use mathlib.Core.Bool.{Bool, true, false, cond, _&&_}
 use mathlib.Core.Path.{_≡_}
 use lib.Dec.{eqb, ltb}
 use Rattle.field.specs.declared.Scalar.{Scalar}
 use Rattle.field.specs.declared.Element.{Element}
+use Rattle.field.specs.declared.Reading.{Reading}
+use Rattle.field.specs.declared.Reading.the-variants.{NoElement, Identity, Other}
 
 -- the order of the group, a prime
 unfoldable pub q : ℕ
@@ -68,8 +70,27 @@ power x e = scalar (powerOf q (x .0) e)
 
 -- ---- group elements: V from 1 to P - 1 with V ^ q = 1 modulo P
 
+-- what a number is, read as one of the group (document 02, request 2.3): no element, the identity 1, or another element
+unfoldable pub readElement : ℕ → Reading
+readElement v = cond (ltb 0 v && (ltb v P && eqb (powerOf P v q) 1)) (cond (eqb v 1) Identity Other) NoElement
+
+-- the reading is an element, the identity or another
+unfoldable pub someElement : Reading → Bool
+someElement NoElement = false
+someElement Identity = true
+someElement Other = true
+
+-- the reading is the identity
+unfoldable pub theIdentity : Reading → Bool
+theIdentity NoElement = false
+theIdentity Identity = true
+theIdentity Other = false
+
 unfoldable pub isElement : ℕ → Bool
-isElement v = ltb 0 v && (ltb v P && eqb (powerOf P v q) 1)
+isElement v = someElement (readElement v)
+
+unfoldable pub isIdentity : ℕ → Bool
+isIdentity v = theIdentity (readElement v)
 
 -- the identity and the generator
 abbrev pub identity : Element
@@ -94,6 +115,10 @@ unfoldable pub raise : Element → Scalar → Element
 raise v x = powered v (x .0)
 
 -- ---- what the laws are about
+
+-- V is of the group
+unfoldable pub InGroup : ℕ → Type 0
+InGroup v = (0 < v) × (v < P) × (v ^ q % P ≡ 1)
 
 abbrev pub IsScalar : Scalar → Type 0
 IsScalar x = isScalar (x .0) ≡ true

@@ -1,22 +1,23 @@
 -- The laws of elements: a group of order q, with scalars as exponents, in which the generator's powers differ. Assumes nothing.
 use mathlib.Core.Path.{_≡_, refl, sym, ap, ap₂, _∙_}
-use mathlib.Core.Logic.{_≢_}
-use mathlib.Core.Bool.{Bool, true, false, _&&_}
+use mathlib.Core.Logic.{_≢_, _↔_}
+use mathlib.Core.Bool.{Bool, true, false, cond, _&&_}
 use Prim.Native.Nat.{ℕ, _+_, _*_, _^_, _%_, _<_}
 use native.Mathlib.Omega.{arith}
 use native.Mathlib.Nat.{mod-lt, mod-eq-of-lt, mul-comm, pow-zero, pos-of-ne-zero, lt-trans}
 use native.Mathlib.Bridge.{le-prop}
-use lib.Dec.{lit<, ltb}
+use lib.Dec.{lit<, ltb, eqb}
 use lib.Pow as N
 use borrow.Author.Tests.{lt-ltb, ltb-true, eq-eqb, eqb-true}
 use Rattle.field.specs.declared.Scalar.{Scalar}
 use Rattle.field.specs.declared.Element.{Element}
-use Rattle.field.specs.Definitions.{q, P, scalar, element, identity, generator, sameElement, powerTo, powerOf, IsScalar, IsElement, isElement, Below, reduced, plus, times, power, product, powered, raise}
+use Rattle.field.specs.declared.Reading.the-variants.{NoElement, Identity, Other}
+use Rattle.field.specs.Definitions.{q, P, scalar, element, identity, generator, sameElement, powerTo, powerOf, readElement, someElement, IsScalar, IsElement, isElement, InGroup, Below, reduced, plus, times, power, product, powered, raise}
 use Rattle.field.specs.CongruenceLaws.{mul-mod, strip, same}
 use Rattle.field.specs.PowerLaws as W
 use Rattle.field.specs.OrderLaws as O
 use Rattle.field.specs.TrialLaws.{trial, prime-by-trial}
-use Rattle.field.specs.ScalarLaws.{range, inverses, power-whole}
+use Rattle.field.specs.ScalarLaws.{range, zero-range, inverses, power-whole}
 
 -- ---- the modulus
 
@@ -62,28 +63,50 @@ one-power a = W.power-is P 1 a ∙ ap (λ (x : ℕ). x % P) (W.one-pow a) ∙ mo
 -- ---- elements
 
 -- what makes an element: its range and its order
+member : (a b : Bool) → someElement (cond a (cond b Identity Other) NoElement) ≡ a
+unfolding someElement
+member true true = refl
+member true false = refl
+member false b = refl
+
+element-test : (v : ℕ) → isElement v ≡ (ltb 0 v && (ltb v P && eqb (powerOf P v q) 1))
+unfolding isElement readElement
+element-test v = member _ (eqb v 1)
+
 both : (a b : Bool) → (a && b) ≡ true → (a ≡ true) × (b ≡ true)
 both true b e = (refl, e)
 both false b e = absurd (mathlib.Core.Bool.false≢true e)
 
+tested : (v : ℕ) → isElement v ≡ true → (ltb 0 v ≡ true) × (ltb v P ≡ true) × (eqb (powerOf P v q) 1 ≡ true)
+tested v h =
+    let p = both (ltb 0 v) _ (sym (element-test v) ∙ h) in
+    let r = both (ltb v P) _ (p .1) in
+    (p .0, r .0, r .1)
+
 pub below : (v : Element) → IsElement v → Below v
-unfolding isElement Below
-below v h = ltb-true (v .0) P (both (ltb (v .0) P) _ (both (ltb 0 (v .0)) _ h .1) .0)
+unfolding Below
+below v h = ltb-true (v .0) P (tested (v .0) h .1)
 
 order : (v : Element) → IsElement v → powerOf P (v .0) q ≡ 1
-unfolding isElement
-order v h = eqb-true (powerOf P (v .0) q) 1 (both (ltb (v .0) P) _ (both (ltb 0 (v .0)) _ h .1) .1)
+order v h = eqb-true (powerOf P (v .0) q) 1 (tested (v .0) h .2)
 
 zero-power : powerOf P 0 q ≡ 0
 unfolding powerOf powerTo P q
 zero-power = refl
 
 is-element : (v : ℕ) → v < P → powerOf P v q ≡ 1 → isElement v ≡ true
-unfolding isElement
-is-element v l e = rw (lt-ltb 0 v positive, lt-ltb v P l, eq-eqb (powerOf P v q) 1 e)
+is-element v l e = element-test v ∙ rw (lt-ltb 0 v positive, lt-ltb v P l, eq-eqb (powerOf P v q) 1 e)
   where
     positive : 0 < v
     positive = pos-of-ne-zero (λ (z : v ≡ 0). omega (arith, sym zero-power ∙ ap (λ (x : ℕ). powerOf P x q) (sym z) ∙ e))
+
+-- that is, it is of the group
+pub element-is : (v : ℕ) → (isElement v ≡ true) ↔ InGroup v
+unfolding InGroup
+element-is v = (
+  λ h. let p = tested v h in (ltb-true 0 v (p .0), ltb-true v P (p .1), sym (W.power-is P v q) ∙ eqb-true (powerOf P v q) 1 (p .2)),
+  λ g. is-element v (g .1) (W.power-is P v q ∙ g .2),
+)
 
 pub identity-element : IsElement identity
 identity-element = is-element 1 1<P (one-power q)
@@ -256,3 +279,7 @@ generator-unique x y h k e =
   where
     four : 4 % P ≢ 1
     four e = omega (arith, sym (mod-eq-of-lt (below generator generator-element)) ∙ e)
+
+-- 4 to a scalar is 1 for 0 alone
+pub generator-identity : (x : Scalar) → IsScalar x → raise generator x ≡ identity → x ≡ scalar 0
+generator-identity x h e = generator-unique x (scalar 0) h zero-range (e ∙ sym (raise-zero generator))

@@ -5,3 +5,4 @@ pub mod TrialLaws
 pub mod OrderLaws
 pub mod ScalarLaws
 pub mod ElementLaws
+pub mod Readings

@@ -1,13 +1,20 @@
 // Scalars modulo q and group elements modulo P, two kinds of number that are never taken for one another.
 ghost use mathlib.Core.Path.{_≡_};
 ghost use Prim.Native.Nat.{_<_};
-ghost use Rattle.field.specs.Definitions.{scalar, identity, generator, powerOf, reduced, plus, minus, times, inverse, power, isScalar, sameElement, product, powered, raise, isElement};
+ghost use Rattle.field.specs.Definitions.{scalar, identity, generator, powerOf, reduced, plus, minus, times, inverse, power, isScalar, sameElement, product, powered, raise, readElement, someElement};
 
 // A number from 0 to q - 1, counted modulo q.
 pub struct Scalar(pub u32);
 
 // A number V from 1 to P - 1 with V^q = 1 modulo P.
 pub struct Element(pub u32);
+
+// What a number is, read as one of the group.
+pub enum Reading {
+    NoElement,
+    Identity,
+    Other,
+}
 
 // base^exponent modulo the modulus, by square and multiply.
 fn power_of(modulus: u32, base: u32, exponent: u32) -> u32
@@ -111,6 +118,19 @@ impl Scalar {
     }
 }
 
+impl Reading {
+    // Whether it is an element, the identity or another.
+    pub fn is_element(self) -> bool
+        ensures { λ r. ⌜ r ≡ someElement self ⌝ }
+    {
+        match self {
+            Reading::NoElement => false,
+            Reading::Identity => true,
+            Reading::Other => true,
+        }
+    }
+}
+
 impl Element {
     // P = 2 q + 1
     pub const MODULUS: u32 = 1000000007;
@@ -135,17 +155,23 @@ impl Element {
         Element::GENERATOR
     }
 
-    // Whether a number is an element as it stands: by its order, and not by range alone.
-    pub fn accepts(x: u32) -> bool
-        ensures { λ r. ⌜ r ≡ isElement x ⌝ }
+    // What a number is as it stands: by its order, and not by range alone.
+    pub fn read(x: u32) -> Reading
+        ensures { λ r. ⌜ r ≡ readElement x ⌝ }
     {
         if x == 0 {
-            return false;
+            return Reading::NoElement;
         }
         if Element::MODULUS <= x {
-            return false;
+            return Reading::NoElement;
         }
-        power_of(Element::MODULUS, x, Scalar::MODULUS) == 1
+        if x == 1 {
+            return Reading::Identity;
+        }
+        if power_of(Element::MODULUS, x, Scalar::MODULUS) == 1 {
+            return Reading::Other;
+        }
+        Reading::NoElement
     }
 
     // Whether both are one element.

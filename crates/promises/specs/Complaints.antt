@@ -108,7 +108,7 @@ at-13 g a r s = stage-case (λ (y : Reply). y .number ≡ 13 → (stageOf r ≡ 
 
 setup-other : (s : List ℕ) → setupRefusal s ≢ 13
 unfolding setupRefusal
-setup-other s = other _ 2 _ refl (other _ 3 _ refl (other _ 4 _ refl (other _ 7 0 refl (eqb-false 0 13 refl))))
+setup-other s = other _ 2 _ refl (other _ 3 _ refl (other _ 4 _ refl (other _ 7 _ refl (other _ 16 0 refl (eqb-false 0 13 refl)))))
 
 head-other : (n size : ℕ) (s : List ℕ) → headRefusal n size s ≢ 13
 unfolding headRefusal

@@ -1,6 +1,6 @@
 -- What a run keeps is what its accepted records say: the invariant of a list, part by part, and what follows at once. Assumes nothing.
 use mathlib.Core.Path.{_≡_, sym, ap, subst, _∙_}
-use mathlib.Core.Bool.{true}
+use mathlib.Core.Bool.{true, false}
 use mathlib.Core.List.{List, []}
 use Prim.Native.Nat.{ℕ, _+_, _*_, _-_, _/_, _%_, _^_, _≤_, _<_}
 use native.Mathlib.Omega.{arith}
@@ -12,7 +12,7 @@ use Rattle.lists.specs.TestLaws.{pick-case}
 use Rattle.lists.specs.Members.{All}
 use Rattle.lists.specs.StoreLaws.{stored-from, length-filled}
 use Rattle.sets.specs.Masks.{has, count}
-use Rattle.field.specs.Definitions.{scalar, element, IsElement, identity}
+use Rattle.field.specs.Definitions.{scalar, element, IsElement, isIdentity, identity}
 use Rattle.protocol.specs.Transcript.{Transcript, passes}
 use Rattle.parameters.specs.Definitions.{mostParties, places, cells, quorum, batch}
 use Rattle.records.specs.Bytes.{byteAt, word, sender}
@@ -143,6 +143,10 @@ module _ (setup : Setup) (s : List ℕ) (h : SetupOf setup s) where
   pub key-element : (j : ℕ) → j ≤ setup .t → IsElement (getD (setup .key) j identity)
   unfolding setupOf
   key-element j l = rw (key-is j l) (setup-passed s (h .admitted) .elements j (omega (arith, ap (λ (z : Setup). z .t) (h .setup-is))))
+
+  -- S is not the identity
+  pub key-apart : isIdentity (getD (setup .key) 0 identity .0) ≡ false
+  key-apart = rw (key-is 0 (omega arith)) (setup-passed s (h .admitted) .key)
 
 pub commitment-element : (setup : Setup) (d : Dealings) (l : List (List ℕ)) → DealingsOf setup d l
     → (i v : ℕ) → 0 < i → has (d .dealers) i ≡ true → v < quorum (setup .t) (setup .a) → IsElement (getD (d .commitments) (base i + v) identity)

@@ -16,3 +16,4 @@ pub mod Pages
 pub mod Shifts
 pub mod Complaints
 pub mod Widths
+pub mod Keys

@@ -1,18 +1,19 @@
 -- What a record that is not refused tells, and the converses. Assumes nothing.
-use mathlib.Core.Path.{_≡_, refl}
+use mathlib.Core.Path.{_≡_, refl, ap}
 use mathlib.Core.Logic.{_↔_}
-use mathlib.Core.Bool.{true, false, and-eq-true-iff}
+use mathlib.Core.Bool.{true, false, not, and-eq-true-iff}
 use mathlib.Core.List.{List}
-use Prim.Native.Nat.{ℕ, _^_, _≤_, _<_}
+use Prim.Native.Nat.{ℕ, _+_, _^_, _≤_, _<_}
 use native.Mathlib.Omega.{arith}
 use lib.ListN.{length}
 use lib.Dec.{leb}
-use borrow.Author.Tests.{le-leb, ltb-true, lt-ltb, eqb-true, eq-eqb}
+use borrow.Author.Tests.{le-leb, ltb-true, lt-ltb, eqb-true, eq-eqb, not-true}
+use Rattle.lists.specs.Tests.{allTo}
 use Rattle.lists.specs.TestLaws.{and-right, all-at, all-make, require-pass, passed, or-next, next-pass}
 use Rattle.sets.specs.Masks.{has}
 use Rattle.sets.specs.MaskLaws.{has-above}
 use Rattle.sets.specs.WidthLaws.{width-of}
-use Rattle.field.specs.Definitions.{isScalar, isElement}
+use Rattle.field.specs.Definitions.{isScalar, isElement, isIdentity}
 use Rattle.parameters.specs.Definitions.{quorum, batch}
 use Rattle.records.specs.Bytes.{byteAt, word, sender}
 use Rattle.records.specs.Tags.{setupLength, dealingLength, complaintLength, responseLength, sharesFrom, maskAt}
@@ -24,6 +25,7 @@ use Rattle.parameters.specs.ParameterLaws.{Bounds, bounds-of, bounds-test, part
 pub record PassedSetup (s : List ℕ) : Type 0 where
   pub bounds : Bounds (byteAt s 2) (byteAt s 3) (byteAt s 4)
   pub elements : (j : ℕ) → j ≤ byteAt s 3 → isElement (word s 6 j) ≡ true
+  pub key : isIdentity (word s 6 0) ≡ false
   pub long : length s ≡ setupLength (byteAt s 3)
   pub reserved : byteAt s 5 ≡ 0
 
@@ -34,9 +36,11 @@ setup-passed s e =
     let q = passed _ _ _ (p .1) (omega arith) in
     let r = passed _ _ _ (q .1) (omega arith) in
     let v = passed _ _ _ (r .1) (omega arith) in
+    let w = passed _ _ _ (v .1) (omega arith) in
     record {
       bounds = bounds-of _ _ _ (r .0);
-      elements = λ j l. all-at _ _ (v .0) j (omega arith);
+      elements = λ j l. all-at (byteAt s 3 + 1) (λ j. isElement (word s 6 j)) (search) j (omega arith);
+      key = not-true (isIdentity (word s 6 0)) (search);
       long = eqb-true _ _ (and-right (leb 6 (length s)) _ (p .0));
       reserved = eqb-true _ _ (q .0);
     }
@@ -45,10 +49,12 @@ pub setup-passes : (s : List ℕ) → PassedSetup s → setupRefusal s ≡ 0
 unfolding setupRefusal setupLength
 setup-passes s h =
     let six : 6 ≤ length s = omega arith in
+    let elements : allTo (byteAt s 3 + 1) (λ j. isElement (word s 6 j)) ≡ true = all-make _ _ (λ j l. h .elements j (omega arith)) in
+    let key : not (isIdentity (word s 6 0)) ≡ true = ap not (h .key) in
     require-pass _ _ _ (and-eq-true-iff _ _ .1 (le-leb _ _ six, eq-eqb _ _ (h .long)))
     (require-pass _ _ _ (eq-eqb _ _ (h .reserved))
     (require-pass _ _ _ (bounds-test (h .bounds))
-    (require-pass _ _ _ (all-make _ _ (λ j l. h .elements j (omega arith))) refl)))
+    (require-pass _ _ _ (search) (require-pass _ _ _ (search) refl))))
 
 -- ---- the head of a dealing, a complaint row or a response row
 

@@ -1,23 +1,24 @@
 -- What is refused from the input alone, by kind of record (document 01, "From the input"): the refusal's number, or 0. Each number is asked of
 -- the whole record before the next one. A reserved byte is a spare one of document 01.
 use Prim.Native.Nat.{ℕ, _+_, _*_, _^_}
-use mathlib.Core.Bool.{Bool, _&&_}
+use mathlib.Core.Bool.{Bool, not, _&&_}
 use mathlib.Core.List.{List}
 use lib.ListN.{length}
 use lib.Dec.{eqb, ltb, leb}
 use Rattle.lists.specs.Tests.{allTo, require, orNext}
-use Rattle.field.specs.Definitions.{isScalar, isElement}
+use Rattle.field.specs.Definitions.{isScalar, isElement, isIdentity}
 use Rattle.parameters.specs.Definitions.{inBounds, quorum, batch, isParty}
 use Rattle.records.specs.Bytes.{byteAt, word, sender}
 use Rattle.records.specs.Tags.{setupLength, dealingLength, complaintLength, challengesLength, shiftedLength, responseLength, sharesFrom, maskAt}
 
--- SU: n, t, a, reserved; S, S_1 to S_t
+-- SU: n, t, a, reserved; S, S_1 to S_t. S is not the identity (document 02, request 2.3); the others may be
 unfoldable pub setupRefusal : List ℕ → ℕ
 setupRefusal s =
     require (leb 6 (length s) && eqb (length s) (setupLength (byteAt s 3))) 2
     (require (eqb (byteAt s 5) 0) 3
     (require (inBounds (byteAt s 2) (byteAt s 3) (byteAt s 4)) 4
-    (require (allTo (byteAt s 3 + 1) (λ j. isElement (word s 6 j))) 7 0)))
+    (require (allTo (byteAt s 3 + 1) (λ j. isElement (word s 6 j))) 7
+    (require (not (isIdentity (word s 6 0))) 16 0))))
 
 -- the head of DE, VE and RE alike: the length, the reserved byte, the dealer or holder
 unfoldable pub headRefusal : ℕ → ℕ → List ℕ → ℕ

@@ -1,10 +1,11 @@
-// What is refused of a record from the input alone: refusals 2 to 8.
+// What is refused of a record from the input alone: refusals 2 to 8, and 16.
 ghost use mathlib.Core.Path.{_≡_};
 ghost use Rattle.lists.specs.Tests.{allTo};
 ghost use Rattle.field.specs.Definitions.{isScalar, isElement};
 ghost use Rattle.records.specs.Bytes.{word};
 ghost use Rattle.refusals.specs.Refusals.{maskFits, setupRefusal, headRefusal, dealingRefusal, complaintRefusal, scalarsRefusal, challengesRefusal, shiftedRefusal, responseRefusal};
 use field::Element;
+use field::Reading;
 use field::Scalar;
 
 // The highest bit of a mask.
@@ -15,7 +16,7 @@ pub fn all_elements(s: &[u8], at: u16, count: u16) -> bool
     ensures { λ r. ⌜ r ≡ allTo count (λ i. isElement (word (now (s .entry)) at i)) ⌝ }
 {
     for i in 0..count {
-        if !Element::accepts(records::word(s, at, i)) {
+        if !Element::read(records::word(s, at, i)).is_element() {
             return false;
         }
     }
@@ -64,7 +65,12 @@ pub fn setup_refusal(s: &[u8]) -> u8
     if !all_elements(s, 6, t as u16 + 1) {
         return 7;
     }
-    0
+    let key = Element::read(records::word(s, 6, 0));
+    match key {
+        Reading::NoElement => 7,
+        Reading::Identity => 16,
+        Reading::Other => 0,
+    }
 }
 
 // The refusal of what a dealing, a complaint row and a response row begin with, or 0: the length, the reserved (spare) byte, the sender.

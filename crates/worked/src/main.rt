@@ -1,5 +1,5 @@
 // Prints cases A to L of document 01, each on a line that begins with its letter: what the run replies to the records of the case, one number each, or what the
-// arithmetic gives; then the worked log with a shift (document 02); last the replies to records that are none.
+// arithmetic gives; then document 02's: the worked log with a shift, committees of 33 and more, a key that is the identity; last the replies to records that are none.
 use console::end_line;
 use console::print_number;
 use console::print_test;
@@ -153,8 +153,8 @@ fn print_scalar(x: Scalar) {
 // (I): 4 and P-1 as elements; (J): the inverse of 2; (K): the weights of the points 2 and 3 at 0.
 fn arithmetic() {
     begin_line(b"I ");
-    print_test(Element::accepts(4));
-    print_test(Element::accepts(Element::MODULUS - 1));
+    print_test(Element::read(4).is_element());
+    print_test(Element::read(Element::MODULUS - 1).is_element());
     end_line();
     begin_line(b"J ");
     print_scalar(Scalar(2).inverse());
@@ -204,6 +204,22 @@ fn wide() {
     end_line();
 }
 
+// Setups with S = 1: refused; with an S_1 that is none, and outside the bounds, refused for that. With S = 4 an S_1 of 1 is taken, and then a dealing that
+// commits to 1 everywhere.
+fn identity() {
+    let fresh = Run::fresh();
+    begin_line(b"identity ");
+    give(fresh, b"SU\x04\x01\x01\x00\x00\x00\x00\x01\x00\x00\x00\x10");
+    give(fresh, b"SU\x04\x01\x01\x00\x00\x00\x00\x01\x00\x00\x00\x00");
+    give(fresh, b"SU\x03\x01\x01\x00\x00\x00\x00\x01\x00\x00\x00\x10");
+    let begun = give(fresh, b"SU\x04\x01\x01\x00\x00\x00\x00\x04\x00\x00\x00\x01");
+    give(
+        begun,
+        b"DE\x01\x00\x00\x00\x00\x01\x00\x00\x00\x01\x00\x00\x00\x00\x00\x00\x00\x00\x00\x00\x00\x00\x00\x00\x00\x00",
+    );
+    end_line();
+}
+
 // Records that are none: no byte, one byte, a tag alone, no tag, and a setup that is late.
 fn senseless() {
     begin_line(b"none ");
@@ -226,5 +242,6 @@ fn main() {
     too_many_blamed();
     shifted();
     wide();
+    identity();
     senseless();
 }

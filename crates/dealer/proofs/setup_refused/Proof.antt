@@ -1,8 +1,9 @@
 -- `setup_refused` meets its contract: the code asks what the definition asks, in its order. Assumes nothing.
 use mathlib.Core.Path.{_≡_, sym, _∙_}
 use borrow.Author.Needs.{needs}
-use borrow.Author.Tests.{eq-eqb, ne-eqb}
-use lib.Dec.{eqb}
+use borrow.Author.Tests.{eq-eqb, ne-eqb, le-ltb, lt-ltb}
+use native.Mathlib.Nat.{le-of-eq, pos-of-ne-zero}
+use lib.Dec.{eqb, ltb}
 use mathlib.Core.Bool.{false}
 use Rattle.field.specs.Definitions.{isScalar}
 use Rattle.lists.specs.Tests.{require}
@@ -51,29 +52,36 @@ returns-4 c =
       counted _ (count .if2 .left) (fails (c .before .all-scalars .ensures) (c .if4 .taken)),
     )
 
-setup-length-requires : tie.Need-setup-length-requires
-setup-length-requires c κs = search needs
-
--- all but the room is settled
-settled : (c : tie.After-setup-length) → let a = c .before .before .before .before .before .before .before .before .before .args in
-    require (eqb (a .room) (setupLength (a .t))) 9 0 ≡ setupRefused (a .n) (a .t) (a .a) (a .s) (a .shares .now) (a .room)
+-- all but s = 0 and the room is settled
+settled : (c : tie.Else4) → let a = c .before .before .before .before .before .before .before .before .args in
+    require (ltb 0 (a .s)) 16 (require (eqb (a .room) (setupLength (a .t))) 9 0) ≡ setupRefused (a .n) (a .t) (a .a) (a .s) (a .shares .now) (a .room)
 unfolding setupRefused require
 settled c =
-    let scalars = c .before in
-    let key = scalars .before .before in
+    let key = c .before .before in
     let count = key .before .before in
     rw (
       holds (count .before .before .in-bounds .ensures) (count .before .if1 .left),
       eq-eqb _ _ (count .if2 .left),
       holds (key .before .accepts .ensures) (key .if3 .left),
-      counted _ (count .if2 .left) (holds (scalars .before .all-scalars .ensures) (scalars .if4 .left)),
+      counted _ (count .if2 .left) (holds (c .before .all-scalars .ensures) (c .if4 .left)),
     )
 
 returns-5 : tie.Need-returns-5
-returns-5 c = sym (require-false _ 9 0 (differs (c .before .setup-length .ensures) (c .if5 .taken))) ∙ settled (c .before)
+returns-5 c = sym (require-false _ 16 _ (le-ltb 0 _ (le-of-eq (c .if5 .taken)))) ∙ settled (c .before)
+
+setup-length-requires : tie.Need-setup-length-requires
+setup-length-requires c κs = search needs
+
+-- all but the room is
+roomed : (c : tie.Else5) → let a = c .before .before .before .before .before .before .before .before .before .args in
+    require (eqb (a .room) (setupLength (a .t))) 9 0 ≡ setupRefused (a .n) (a .t) (a .a) (a .s) (a .shares .now) (a .room)
+roomed c = sym (require-true _ 16 _ (lt-ltb 0 _ (pos-of-ne-zero (c .if5 .left)))) ∙ settled (c .before)
 
 returns-6 : tie.Need-returns-6
-returns-6 c = sym (require-true _ 9 0 (equals (c .before .setup-length .ensures) (c .if5 .left))) ∙ settled (c .before)
+returns-6 c = sym (require-false _ 9 0 (differs (c .before .setup-length .ensures) (c .if6 .taken))) ∙ roomed (c .before .before)
+
+returns-7 : tie.Need-returns-7
+returns-7 c = sym (require-true _ 9 0 (equals (c .before .setup-length .ensures) (c .if6 .left))) ∙ roomed (c .before .before)
 
 pub setup-refused-spec : {M : Type 1} → statement M
 setup-refused-spec =
@@ -86,6 +94,7 @@ setup-refused-spec =
     returns-3
     all-scalars-requires
     returns-4
-    setup-length-requires
     returns-5
-    returns-6)
+    setup-length-requires
+    returns-6
+    returns-7)

@@ -16,7 +16,7 @@ use Rattle.dealer.proofs.write_setup.Statement.{statement}
 use Rattle.dealer.proofs.write_setup.Tie as tie
 
 -- what is known where nothing is refused
-known : (c : tie.Else1) → let a = c .before .before .before .before .args in SetupFits (a .n) (a .t) (a .a) (a .shares .now) (length (a .out .now))
+known : (c : tie.Else1) → let a = c .before .before .before .before .args in SetupFits (a .n) (a .t) (a .a) (a .s) (a .shares .now) (length (a .out .now))
 known c =
     let a = c .before .before .before .before .args in
     setup-fits (a .n) (a .t) (a .a) (a .s) (a .shares .now) (length (a .out .now)) (sym (c .before .setup-refused .ensures) ∙ c .if1 .left)

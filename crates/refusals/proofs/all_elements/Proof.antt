@@ -1,9 +1,11 @@
 -- `all_elements` meets its contract. Every number below i is of the kind. Assumes nothing.
 use borrow.Author.Needs.{needs}
 use native.Mathlib.Omega.{arith}
-use mathlib.Core.Path.{_≡_}
+use mathlib.Core.Path.{_≡_, sym, ap, _∙_}
 use Prim.Native.Nat.{_-_}
-use Rattle.field.specs.Definitions.{isElement}
+use Rattle.field.specs.declared.Reading.{Reading}
+use Rattle.field.specs.Definitions.{isElement, someElement}
+use Rattle.field.specs.Readings.{element-read}
 use Rattle.records.specs.Bytes.{word}
 use Rattle.lists.specs.CallLaws.{Asked, asked-none, asked-more, asked-fails, asked-all}
 use Rattle.refusals.proofs.all_elements.Statement.{statement}
@@ -21,14 +23,19 @@ loop-holds c = asked-none _ _
 word-requires : tie.Need-word-requires Inv-loop μ-loop
 word-requires c κs = search needs
 
-accepts-requires : tie.Need-accepts-requires Inv-loop μ-loop
-accepts-requires c κs = search needs
+read-requires : tie.Need-read-requires Inv-loop μ-loop
+read-requires c κs = search needs
 
--- what the call says of number i
-asked : (c : tie.After-accepts Inv-loop μ-loop) → let b = c .before .before .before in
+is-element-requires : tie.Need-is-element-requires Inv-loop μ-loop
+is-element-requires c κs = search needs
+
+-- what the calls say of number i
+asked : (c : tie.After-is-element Inv-loop μ-loop) → let b = c .before .before .before .before in
     let a = b .before .before .args in
-    c .accepts .result ≡ isElement (word (a .s .now) (a .at) (b .loop .i))
-asked c = rw (c .before .word .ensures) at (c .accepts .ensures)
+    c .is-element .result ≡ isElement (word (a .s .now) (a .at) (b .loop .i))
+asked c =
+    let read = rw (c .before .before .word .ensures) at (c .before .read .ensures) in
+    c .is-element .ensures ∙ ap someElement read ∙ sym (element-read _)
 
 returns : tie.Need-returns Inv-loop μ-loop
 returns c = asked-fails _ _ _ (asked (c .before)) (c .if1 .taken) (omega arith)
@@ -40,7 +47,7 @@ loop-less : tie.Need-loop-less Inv-loop μ-loop
 loop-less c = search needs
 
 loop-again : tie.Need-loop-again Inv-loop μ-loop
-loop-again c = asked-more _ _ _ (c .before .before .before .before .loop .inv) (asked (c .before)) (c .if1 .left) (omega arith)
+loop-again c = asked-more _ _ _ (c .before .before .before .before .before .loop .inv) (asked (c .before)) (c .if1 .left) (omega arith)
 
 returns-2 : tie.Need-returns-2 Inv-loop μ-loop
 returns-2 c = asked-all _ _ _ (c .before .loop .inv) (omega arith)
@@ -53,7 +60,8 @@ all-elements-spec =
     μ-loop
     loop-holds
     word-requires
-    accepts-requires
+    read-requires
+    is-element-requires
     returns
     add-i
     loop-less

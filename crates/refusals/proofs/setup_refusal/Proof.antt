@@ -1,9 +1,14 @@
 -- `setup_refusal` meets its contract: the code asks what the definition asks, in its order. Assumes nothing.
-use mathlib.Core.Path.{refl, sym}
-use mathlib.Core.Bool.{and-false}
+use mathlib.Core.Path.{_≡_, refl, sym, ap, _∙_}
+use mathlib.Core.Bool.{not, and-false}
+use native.Mathlib.Omega.{arith}
 use borrow.Author.Needs.{needs}
 use borrow.Author.Tests.{le-leb, lt-leb}
-use Rattle.lists.specs.TestLaws.{Left, left, test-number}
+use Rattle.field.specs.declared.Reading.{Reading}
+use Rattle.field.specs.Definitions.{readElement}
+use Rattle.field.specs.Readings.{element-none, identity-one, identity-other}
+use Rattle.records.specs.Bytes.{word}
+use Rattle.lists.specs.TestLaws.{Left, left, test-number, one-fails}
 use Rattle.refusals.specs.Refusals.{setupRefusal}
 use Rattle.lists.specs.CallLaws.{holds, fails, equals, differs, is, is-not}
 use Rattle.refusals.proofs.setup_refusal.Statement.{statement}
@@ -84,12 +89,50 @@ returns-5 c =
     let here = rw t at (c .before .all-elements .ensures) in
     test-number _ _ _ (bounds (c .before .before)) (fails here (c .if5 .taken))
 
+elements : (c : tie.Else5) → unfold setupRefusal in (Left _ _ _ (bounds (c .before .before)))
+unfolding setupRefusal
+elements c =
+    let t = c .before .before .before .before .before .before .before .before .before .before .byte .ensures in
+    let here = rw t at (c .before .all-elements .ensures) in
+    left _ _ _ (bounds (c .before .before)) (holds here (c .if5 .left))
+
+word-requires : tie.Need-word-requires
+word-requires c κs = search needs
+
+read-requires : tie.Need-read-requires
+read-requires c κs = search needs
+
+enum-told : tie.Need-enum-told
+enum-told c = search needs
+
+enum-told-2 : tie.Need-enum-told-2
+enum-told-2 c = search needs
+
+enum-told-3 : tie.Need-enum-told-3
+enum-told-3 c = search needs
+
+-- how S is read
+key : (c : tie.After-read) {r : Reading} → c .read .result ≡ r → readElement (word (c .before .before .before .before .before .before .before .before .before .before .before .before .before .before .before .args .s .now) 6 0) ≡ r
+key c e = sym (rw (c .before .word .ensures) at (c .read .ensures)) ∙ e
+
 returns-6 : tie.Need-returns-6
 unfolding setupRefusal
 returns-6 c =
-    let t = c .before .before .before .before .before .before .before .before .before .before .byte .ensures in
-    let here = rw t at (c .before .all-elements .ensures) in
-    sym (left _ _ _ (bounds (c .before .before)) (holds here (c .if5 .left)))
+    let first = c .before .before .before .before in
+    let none = element-none _ (key (c .before .before) (c .enum-told .given .1)) in
+    test-number _ _ _ (bounds (first .before .before)) (one-fails _ 0 _ (omega arith) none)
+
+returns-7 : tie.Need-returns-7
+unfolding setupRefusal
+returns-7 c =
+    let one = identity-one _ (key (c .before .before) (c .enum-told2 .given .1)) in
+    test-number _ _ _ (elements (c .before .before .before .before)) (ap not one)
+
+returns-8 : tie.Need-returns-8
+unfolding setupRefusal
+returns-8 c =
+    let other = identity-other _ (key (c .before .before) (c .enum-told3 .given .1)) in
+    sym (left _ _ _ (elements (c .before .before .before .before)) (ap not other))
 
 pub setup-refusal-spec : {M : Type 1} → statement M
 setup-refusal-spec =
@@ -109,4 +152,11 @@ setup-refusal-spec =
     add-all-elements
     all-elements-requires
     returns-5
-    returns-6)
+    word-requires
+    read-requires
+    enum-told
+    enum-told-2
+    enum-told-3
+    returns-6
+    returns-7
+    returns-8)
