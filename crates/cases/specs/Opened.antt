@@ -5,7 +5,7 @@ use Rattle.algebra.specs.Fold.{fold}
 use Rattle.lists.specs.Tests.{allTo, require, orNext}
 use Rattle.lists.specs.Stores.{stored, filled}
 use Rattle.sets.specs.Masks.{bit, has, insert, minus, maskOf, membersFrom}
-use Rattle.field.specs.Definitions.{q, P, powerTo, powerOf, isScalar, readElement, someElement, theIdentity, isElement, isIdentity, reduced, plus, times, inverseTo, inverseOf, inverse, power, product, raise, sameElement, powered}
+use Rattle.field.specs.Definitions.{q, P, powerTo, powerOf, isScalar, readingOf, readElement, someElement, theIdentity, isElement, isIdentity, reduced, plus, times, inverseTo, inverseOf, inverse, power, product, raise, sameElement, powered}
 use Rattle.field.specs.Definitions as F
 use Rattle.interpolation.specs.Definitions.{point, factor, weight, scalarAt, elementAt, party, slot, committedPoint}
 use Rattle.parameters.specs.Definitions.{inBounds, quorum, batch}
@@ -36,7 +36,7 @@ unfolding flatten
     allTo require orNext
     stored filled
     bit has insert minus maskOf membersFrom
-    q P powerTo powerOf isScalar readElement someElement theIdentity isElement isIdentity reduced plus times inverseTo inverseOf inverse power product raise sameElement powered F.minus
+    q P powerTo powerOf isScalar readingOf readElement someElement theIdentity isElement isIdentity reduced plus times inverseTo inverseOf inverse power product raise sameElement powered F.minus
     point factor weight scalarAt elementAt party slot committedPoint
     inBounds quorum batch
     byteAt wideAt numberAt word

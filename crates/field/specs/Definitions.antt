@@ -1,7 +1,7 @@
 -- The two kinds of number, and what is done with them (document 01, "The bench and its two kinds of number").
 -- Every operation is total: it says what any two numbers give, in range or not.
 use Prim.Native.Nat.{ℕ, zero, suc, _+_, _*_, _-_, _/_, _%_, _^_, _<_}
-use mathlib.Core.Bool.{Bool, true, false, cond, _&&_}
+use mathlib.Core.Bool.{Bool, true, false, _&&_}
 use mathlib.Core.Path.{_≡_}
 use lib.Dec.{eqb, ltb}
 use Rattle.field.specs.declared.Scalar.{Scalar}
@@ -70,9 +70,15 @@ power x e = scalar (powerOf q (x .0) e)
 
 -- ---- group elements: V from 1 to P - 1 with V ^ q = 1 modulo P
 
--- what a number is, read as one of the group (document 02, request 2.3): no element, the identity 1, or another element
+-- the reading of a number: first whether it is of the group, second whether it is 1
+unfoldable pub readingOf : Bool → Bool → Reading
+readingOf false one = NoElement
+readingOf true true = Identity
+readingOf true false = Other
+
+-- what a number is, read as one of the group (document 02, request 2.3): no element, the identity, or another element
 unfoldable pub readElement : ℕ → Reading
-readElement v = cond (ltb 0 v && (ltb v P && eqb (powerOf P v q) 1)) (cond (eqb v 1) Identity Other) NoElement
+readElement v = readingOf (ltb 0 v && (ltb v P && eqb (powerOf P v q) 1)) (eqb v 1)
 
 -- the reading is an element, the identity or another
 unfoldable pub someElement : Reading → Bool

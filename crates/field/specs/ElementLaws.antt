@@ -1,7 +1,7 @@
 -- The laws of elements: a group of order q, with scalars as exponents, in which the generator's powers differ. Assumes nothing.
 use mathlib.Core.Path.{_≡_, refl, sym, ap, ap₂, _∙_}
 use mathlib.Core.Logic.{_≢_, _↔_}
-use mathlib.Core.Bool.{Bool, true, false, cond, _&&_}
+use mathlib.Core.Bool.{Bool, true, false, _&&_}
 use Prim.Native.Nat.{ℕ, _+_, _*_, _^_, _%_, _<_}
 use native.Mathlib.Omega.{arith}
 use native.Mathlib.Nat.{mod-lt, mod-eq-of-lt, mul-comm, pow-zero, pos-of-ne-zero, lt-trans}
@@ -11,8 +11,7 @@ use lib.Pow as N
 use borrow.Author.Tests.{lt-ltb, ltb-true, eq-eqb, eqb-true}
 use Rattle.field.specs.declared.Scalar.{Scalar}
 use Rattle.field.specs.declared.Element.{Element}
-use Rattle.field.specs.declared.Reading.the-variants.{NoElement, Identity, Other}
-use Rattle.field.specs.Definitions.{q, P, scalar, element, identity, generator, sameElement, powerTo, powerOf, readElement, someElement, IsScalar, IsElement, isElement, InGroup, Below, reduced, plus, times, power, product, powered, raise}
+use Rattle.field.specs.Definitions.{q, P, scalar, element, identity, generator, sameElement, powerTo, powerOf, readingOf, readElement, someElement, IsScalar, IsElement, isElement, InGroup, Below, reduced, plus, times, power, product, powered, raise}
 use Rattle.field.specs.CongruenceLaws.{mul-mod, strip, same}
 use Rattle.field.specs.PowerLaws as W
 use Rattle.field.specs.OrderLaws as O
@@ -63,15 +62,15 @@ one-power a = W.power-is P 1 a ∙ ap (λ (x : ℕ). x % P) (W.one-pow a) ∙ mo
 -- ---- elements
 
 -- what makes an element: its range and its order
-member : (a b : Bool) → someElement (cond a (cond b Identity Other) NoElement) ≡ a
-unfolding someElement
+member : (a b : Bool) → someElement (readingOf a b) ≡ a
+unfolding someElement readingOf
 member true true = refl
 member true false = refl
 member false b = refl
 
 element-test : (v : ℕ) → isElement v ≡ (ltb 0 v && (ltb v P && eqb (powerOf P v q) 1))
 unfolding isElement readElement
-element-test v = member _ (eqb v 1)
+element-test v = member _ _
 
 both : (a b : Bool) → (a && b) ≡ true → (a ≡ true) × (b ≡ true)
 both true b e = (refl, e)

@@ -1,14 +1,14 @@
 -- The reading of a group number: which numbers get each of its three answers, and that every number gets one of them and no other. Assumes nothing.
 use mathlib.Core.Path.{_≡_, refl, sym, ap, _∙_}
 use mathlib.Core.Logic.{_≢_, _↔_, _⊎_, inl, inr}
-use mathlib.Core.Bool.{Bool, true, false, cond, _&&_, true≢false, false≢true}
+use mathlib.Core.Bool.{Bool, true, false, true≢false, false≢true}
 use Prim.Native.Nat.{ℕ}
-use lib.Dec.{eqb, ltb}
+use lib.Dec.{eqb}
 use native.Mathlib.Decide.{ℕ-discrete}
 use borrow.Author.Tests.{eqb-true, eq-eqb, ne-eqb}
 use Rattle.field.specs.declared.Reading.{Reading}
 use Rattle.field.specs.declared.Reading.the-variants.{NoElement, Identity, Other}
-use Rattle.field.specs.Definitions.{q, P, powerTo, powerOf, readElement, someElement, theIdentity, isElement, isIdentity, InGroup}
+use Rattle.field.specs.Definitions.{q, P, powerTo, powerOf, readingOf, readElement, someElement, theIdentity, isElement, isIdentity, InGroup}
 use Rattle.field.specs.ElementLaws.{element-is}
 
 -- ---- the three answers
@@ -47,10 +47,11 @@ identity-other v e = ap theIdentity e
 -- ---- the numbers that get each answer
 
 one-read : readElement 1 ≡ Identity
-unfolding readElement powerOf powerTo P q
+unfolding readingOf readElement powerOf powerTo P q
 one-read = refl
 
-one-alone : (a b : Bool) → cond a (cond b Identity Other) NoElement ≡ Identity → b ≡ true
+one-alone : (a b : Bool) → readingOf a b ≡ Identity → b ≡ true
+unfolding readingOf
 one-alone true true e = refl
 one-alone true false e = absurd (read-apart .2 (sym e))
 one-alone false b e = absurd (read-apart .0 e)
@@ -58,7 +59,7 @@ one-alone false b e = absurd (read-apart .0 e)
 -- the identity: 1 alone
 pub read-identity : (v : ℕ) → (readElement v ≡ Identity) ↔ (v ≡ 1)
 unfolding readElement
-read-identity v = (λ e. eqb-true v 1 (one-alone (ltb 0 v && (ltb v P && eqb (powerOf P v q) 1)) (eqb v 1) e), λ e. ap readElement e ∙ one-read)
+read-identity v = (λ e. eqb-true v 1 (one-alone _ _ e), λ e. ap readElement e ∙ one-read)
 
 none-of : (r : Reading) → someElement r ≢ true → r ≡ NoElement
 unfolding someElement

@@ -65,6 +65,7 @@ pub fn setup_refusal(s: &[u8]) -> u8
     if !all_elements(s, 6, t as u16 + 1) {
         return 7;
     }
+    // 7 has been asked of S with the others, so that it is the identity or another element
     let key = Element::read(records::word(s, 6, 0));
     match key {
         Reading::NoElement => 7,

@@ -5,18 +5,18 @@ use Prim.Native.Nat.{_<_}
 use mathlib.Core.Path.{_≡_, sym, _∙_}
 use mathlib.Core.Bool.{true, false}
 use lib.Dec.{eqb, ltb}
-use Rattle.field.specs.Definitions.{P, q, powerOf, readElement}
+use Rattle.field.specs.Definitions.{P, q, powerOf, readingOf, readElement}
 use Rattle.field.specs.Readings.{read-identity}
 use borrow.Author.Needs.{needs}
 use Rattle.field.proofs.Element.read.Statement.{statement}
 use Rattle.field.proofs.Element.read.Tie as tie
 
 returns : tie.Need-returns
-unfolding readElement
+unfolding readingOf readElement
 returns c = rw (le-ltb 0 (c .before .args .x) (omega arith))
 
 returns-2 : tie.Need-returns-2
-unfolding readElement P
+unfolding readingOf readElement P
 returns-2 c =
     let x = c .before .before .args .x in
     let p : 0 < x = omega arith in
@@ -30,7 +30,7 @@ power-of-requires : tie.Need-power-of-requires
 power-of-requires c κs = search needs
 
 returns-4 : tie.Need-returns-4
-unfolding readElement P q
+unfolding readingOf readElement P q
 returns-4 c =
     let first = c .before .before in
     let x = first .before .before .before .args .x in
@@ -39,7 +39,7 @@ returns-4 c =
     rw (lt-ltb 0 x p, lt-ltb x P (first .before .if2 .left), one, ne-eqb x 1 (first .if3 .left))
 
 returns-5 : tie.Need-returns-5
-unfolding readElement P q
+unfolding readingOf readElement P q
 returns-5 c =
     let first = c .before .before in
     let x = first .before .before .before .args .x in
