@@ -1,5 +1,5 @@
 //! The two kinds of number: scalars modulo q, and elements of the group of
-//! order q modulo P. Written from document 01 alone.
+//! order q modulo P. Written from documents 01 and 02 alone.
 
 use std::ops::{Add, Mul, Sub};
 
@@ -15,6 +15,17 @@ pub struct Scalar(u32);
 /// A number V from 1 to P-1 with V^q = 1 modulo P.
 #[derive(Clone, Copy, Debug, PartialEq, Eq)]
 pub struct Element(u32);
+
+/// What a number that stands for an element is read as (request 2.3).
+#[derive(Clone, Copy, Debug, PartialEq, Eq)]
+pub enum GroupNumber {
+    /// Out of range, or not in the group.
+    NoElement,
+    /// The number 1.
+    Identity,
+    /// Any other element.
+    Other(Element),
+}
 
 /// The remainder of a product.
 fn times(x: u32, y: u32, modulus: u32) -> u32 {
@@ -126,12 +137,6 @@ impl Element {
     pub const ONE: Element = Element(1);
     pub const GENERATOR: Element = Element(4);
 
-    /// The element written as this number; none if the number is not in the group.
-    pub fn read(number: u32) -> Option<Element> {
-        let in_range = (1..P).contains(&number);
-        (in_range && is_square(number)).then_some(Element(number))
-    }
-
     /// 4 to the given scalar.
     pub fn of(exponent: Scalar) -> Element {
         Element::GENERATOR.power(exponent)
@@ -143,6 +148,16 @@ impl Element {
 
     pub fn power(self, exponent: Scalar) -> Element {
         Element(power(self.0, exponent.0, P))
+    }
+}
+
+impl GroupNumber {
+    pub fn read(number: u32) -> GroupNumber {
+        match number {
+            1 => GroupNumber::Identity,
+            2..P if is_square(number) => GroupNumber::Other(Element(number)),
+            _ => GroupNumber::NoElement,
+        }
     }
 }
 

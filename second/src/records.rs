@@ -1,9 +1,9 @@
 //! The six kinds of record, CS of request 2.1 among them: their tags, their
-//! lengths, and reading their bytes. Reading asks refusals 2 to 8 of the whole
-//! record, in the order of document 01: 2, 3, 4, 5, 7, 6, 8. Written from
-//! documents 01 and 02 alone.
+//! lengths, and reading their bytes. Reading asks refusals 2 to 8, and 16 of
+//! request 2.3, of the whole record, in the order 2, 3, 4, 5, 7, 16, 6, 8.
+//! Written from documents 01 and 02 alone.
 
-use crate::arith::{Element, Scalar};
+use crate::arith::{Element, GroupNumber, Scalar};
 use crate::params::{Params, Party};
 use crate::refusal::Refusal;
 use std::collections::BTreeSet;
@@ -105,9 +105,26 @@ fn numbers(bytes: &[u8]) -> Vec<u32> {
     bytes.chunks_exact(4).map(number).collect()
 }
 
-fn elements(bytes: &[u8]) -> Result<Vec<Element>, Refusal> {
-    let read = |number| Element::read(number).ok_or(Refusal::Element);
-    numbers(bytes).into_iter().map(read).collect()
+fn group_numbers(bytes: &[u8]) -> Vec<GroupNumber> {
+    numbers(bytes).into_iter().map(GroupNumber::read).collect()
+}
+
+/// The elements that numbers are read as, the identity or others.
+fn elements(read: &[GroupNumber]) -> Result<Vec<Element>, Refusal> {
+    let element = |number: &GroupNumber| match *number {
+        GroupNumber::NoElement => Err(Refusal::Element),
+        GroupNumber::Identity => Ok(Element::ONE),
+        GroupNumber::Other(element) => Ok(element),
+    };
+    read.iter().map(element).collect()
+}
+
+/// S may be any element but the identity.
+fn check_key(read: GroupNumber) -> Result<(), Refusal> {
+    match read {
+        GroupNumber::Identity => Err(Refusal::IdentityKey),
+        _ => Ok(()),
+    }
 }
 
 fn scalars(bytes: &[u8]) -> Result<Vec<Scalar>, Refusal> {
@@ -149,9 +166,10 @@ pub fn read_setup(bytes: &[u8]) -> Result<Setup, Refusal> {
     check_length(bytes, setup_length(t))?;
     check_reserved(&bytes[5..6])?;
     let params = Params::new(n, t, a).ok_or(Refusal::Bounds)?;
-    let public_key = elements(&bytes[6..10])?[0];
-    let holder_keys = elements(&bytes[10..])?;
-    Ok(Setup { params, public_key, holder_keys })
+    let read = group_numbers(&bytes[6..]);
+    let keys = elements(&read)?;
+    check_key(read[0])?;
+    Ok(Setup { params, public_key: keys[0], holder_keys: keys[1..].to_vec() })
 }
 
 pub fn read_dealing(bytes: &[u8], params: &Params) -> Result<DealingRecord, Refusal> {
@@ -159,7 +177,7 @@ pub fn read_dealing(bytes: &[u8], params: &Params) -> Result<DealingRecord, Refu
     check_reserved(&bytes[3..4])?;
     let dealer = party(bytes[2], params)?;
     let (committed, shared) = bytes[4..].split_at(4 * params.quorum());
-    let commitments = elements(committed)?;
+    let commitments = elements(&group_numbers(committed))?;
     let shares = scalars(shared)?;
     Ok(DealingRecord { dealer, commitments, shares })
 }

@@ -1,4 +1,4 @@
-//! The refusals of records and writers, with the numbers of document 01.
+//! The refusals of records and writers, with the numbers of documents 01 and 02.
 
 /// Why a record or a writer's request is refused.
 #[derive(Clone, Copy, Debug, PartialEq, Eq, PartialOrd, Ord)]
@@ -33,6 +33,8 @@ pub enum Refusal {
     Outsider = 14,
     /// A response number does not pass.
     Response = 15,
+    /// A key that is the identity: S is 1, or the SU writer's s is 0.
+    IdentityKey = 16,
 }
 
 impl Refusal {

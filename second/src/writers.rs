@@ -1,7 +1,7 @@
 //! The writers of SU, DE, VE and RE. Each fills a buffer of exactly the
 //! record's length, or refuses and leaves it alone. The order of refusals is
-//! that of document 01: 11, 4, 5, 14, 10, 6, 9. Written from documents 01 and 02
-//! alone.
+//! that of document 01 with request 2.3's 16: 11, 4, 5, 14, 10, 6, 16, 9. Written
+//! from documents 01 and 02 alone.
 
 use crate::arith::{Element, Scalar};
 use crate::params::{party_point, Params, Party};
@@ -21,6 +21,7 @@ pub fn write_su(
     check_count(key_values, params.t as usize)?;
     let secret = scalar(s)?;
     let key_values = scalars(key_values)?;
+    check_secret(secret)?;
     let mut record = begin(Tag::Su, &[n, t, a, 0]);
     put_number(&mut record, Element::of(secret).number());
     for value in key_values {
@@ -133,6 +134,15 @@ fn check_count(list: &[u32], count: usize) -> Result<(), Refusal> {
         Ok(())
     } else {
         Err(Refusal::List)
+    }
+}
+
+/// With s = 0 the key 4^s would be the identity.
+fn check_secret(secret: Scalar) -> Result<(), Refusal> {
+    if secret == Scalar::ZERO {
+        Err(Refusal::IdentityKey)
+    } else {
+        Ok(())
     }
 }
 

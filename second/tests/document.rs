@@ -1,6 +1,6 @@
 //! The worked log of document 01 and its cases B to L.
 
-use second::arith::{Element, Scalar};
+use second::arith::{Element, GroupNumber, Scalar};
 use second::generator::document::{self, plain_setup, record};
 use second::log::read_log;
 use second::refusal::Refusal;
@@ -66,10 +66,10 @@ fn h_range_of_scalars() {
 
 #[test]
 fn i_elements() {
-    assert_eq!(Element::read(4), Some(Element::GENERATOR));
-    assert_eq!(Element::read(1), Some(Element::ONE));
+    assert_eq!(GroupNumber::read(4), GroupNumber::Other(Element::GENERATOR));
+    assert_eq!(GroupNumber::read(1), GroupNumber::Identity);
     for number in [0, 5, 1_000_000_006, 1_000_000_007, 1_000_000_011] {
-        assert_eq!(Element::read(number), None);
+        assert_eq!(GroupNumber::read(number), GroupNumber::NoElement);
     }
 }
 

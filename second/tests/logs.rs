@@ -146,6 +146,23 @@ fn more_than_32_parties_are_asked_for() {
     assert!(!coverage.missing_wide().contains(&done));
 }
 
+/// Does the log begin with a setup whose S is 1?
+fn has_identity_key(log: &NamedLog) -> bool {
+    log.bytes.starts_with(b"SU") && log.bytes.get(6..10) == Some(&[0, 0, 0, 1])
+}
+
+/// Lots had drawn s = 0 for some logs before request 2.3. They keep their bytes, and
+/// reading them ends with what comes after their setup.
+#[test]
+fn some_earlier_logs_have_the_identity_as_their_key() {
+    let refused: Vec<&NamedLog> = logs().iter().filter(|log| has_identity_key(log)).collect();
+    assert_eq!(refused.len(), 21);
+    for log in refused {
+        let page = format!("refuse 1 16\nrefuse 2 11\n{NO_SETS}end 0\n");
+        assert_eq!(report(&log.bytes), page, "{}", log.kind);
+    }
+}
+
 #[test]
 fn large_committees_are_completed() {
     for kind in [
@@ -161,7 +178,8 @@ fn large_committees_are_completed() {
         "wide-size-65536",
     ] {
         for log in logs().iter().filter(|log| log.kind.starts_with(kind)) {
-            assert!(report(&log.bytes).ends_with("end 5\n"), "{kind}");
+            let end = if has_identity_key(log) { "end 0\n" } else { "end 5\n" };
+            assert!(report(&log.bytes).ends_with(end), "{}", log.kind);
         }
     }
 }

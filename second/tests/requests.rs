@@ -116,7 +116,7 @@ fn every_writer_gives_every_number_it_has() {
         found.insert((writer, request.answer().0));
     }
     let expected: [(u8, &[u8]); 4] = [
-        (1, &[0, 4, 6, 9, 10]),
+        (1, &[0, 4, 6, 9, 10, 16]),
         (2, &[0, 4, 5, 6, 9, 10]),
         (3, &[0, 5, 9, 11]),
         (4, &[0, 5, 6, 9, 10, 11, 14]),

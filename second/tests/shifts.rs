@@ -1,6 +1,6 @@
 //! CS, the challenges with a shift (request 2.1).
 
-use second::arith::{Element, Scalar, Q};
+use second::arith::{Element, GroupNumber, Scalar, Q};
 use second::generator::committee::as_cs;
 use second::generator::course::completed;
 use second::generator::document::{
@@ -167,9 +167,18 @@ fn signatures(page: &str) -> Vec<[u32; 4]> {
     lines.map(|line| <Vec<u32>>::try_into(numbers(line)).expect("four numbers")).collect()
 }
 
+/// The element that a page prints so.
+fn element(number: u32) -> Element {
+    match GroupNumber::read(number) {
+        GroupNumber::NoElement => panic!("{number} is no element"),
+        GroupNumber::Identity => Element::ONE,
+        GroupNumber::Other(element) => element,
+    }
+}
+
 /// u, k, R × 4^δ and φ + δ.
 fn moved([u, k, nonce, signature]: [u32; 4], shift: Scalar) -> [u32; 4] {
-    let nonce = Element::read(nonce).expect("an element") * Element::of(shift);
+    let nonce = element(nonce) * Element::of(shift);
     let signature = Scalar::read(signature).expect("a scalar") + shift;
     [u, k, nonce.number(), signature.number()]
 }
@@ -204,9 +213,8 @@ fn every_printed_line_verifies() {
         assert_eq!(lines.len(), (draft.params().a * draft.params().combinations()) as usize);
         for [u, k, nonce, signature] in lines {
             let challenge = run.challenges[u as usize - 1][k as usize - 1];
-            let nonce = Element::read(nonce).expect("an element");
             let signature = Scalar::read(signature).expect("a scalar");
-            assert_eq!(Element::of(signature), nonce * public_key.power(challenge));
+            assert_eq!(Element::of(signature), element(nonce) * public_key.power(challenge));
         }
     }
 }

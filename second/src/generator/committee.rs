@@ -1,8 +1,9 @@
 //! The secrets of a committee, and the honest records made from them by the writers.
 
-use crate::arith::{Scalar, Q};
+use super::bytes::put;
+use crate::arith::{Element, Scalar, Q};
 use crate::params::{party_point, Params, Party, MOST_NARROW, MOST_PARTIES};
-use crate::records::Tag;
+use crate::records::{Setup, Tag};
 use crate::refusal::Refusal;
 use crate::rng::Rng;
 use crate::run::Run;
@@ -11,6 +12,9 @@ use crate::writers::{write_de, write_re, write_su, write_ve};
 
 /// n, t and a, within the bounds or not.
 pub type Triple = (u8, u8, u8);
+
+/// Where S stands in SU; S_1 to S_t follow.
+pub const KEY_PLACE: usize = 6;
 
 #[derive(Clone)]
 pub struct Committee {
@@ -86,6 +90,17 @@ pub fn as_cs(ch: &[u8], shift: u32) -> Vec<u8> {
     [Tag::Cs.letters(), &ch[2..4], &shift.to_be_bytes(), &ch[4..]].concat()
 }
 
+/// Puts 1 for S in an SU.
+pub fn put_identity_key(su: &mut [u8]) {
+    put(su, KEY_PLACE, Element::ONE.number());
+}
+
+/// The SU with S = 1.
+pub fn with_identity_key(mut su: Vec<u8>) -> Vec<u8> {
+    put_identity_key(&mut su);
+    su
+}
+
 impl Committee {
     pub fn random(params: Params, rng: &mut Rng) -> Committee {
         Committee {
@@ -115,7 +130,23 @@ impl Committee {
         (1..=self.params.n).map(|i| self.share(i, j).number()).collect()
     }
 
+    /// Is s 0, and so S the identity? Lots may draw it; request 2.3 refuses it.
+    pub fn has_identity_key(&self) -> bool {
+        self.secret == Scalar::ZERO
+    }
+
+    /// What SU says.
+    pub fn setup(&self) -> Setup {
+        let holder_keys = self.key_values.iter().copied().map(Element::of).collect();
+        Setup { params: self.params, public_key: Element::of(self.secret), holder_keys }
+    }
+
+    /// SU. The writer refuses s = 0; the record is then that of s = 1 but for S.
     pub fn su(&self) -> Vec<u8> {
+        if self.has_identity_key() {
+            let other = Committee { secret: Scalar::ONE, ..self.clone() };
+            return with_identity_key(other.su());
+        }
         let (params, key_values) = (as_bytes(self.params), as_numbers(&self.key_values));
         let length = Tag::Su.length(&self.params);
         written(length, |buffer| write_su(params, self.secret.number(), &key_values, buffer))

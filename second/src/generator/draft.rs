@@ -1,15 +1,19 @@
 //! A log in the making: a committee, the run that its records are given to,
 //! and the bytes so far. Every record is written with the answer it must get,
 //! and a different answer stops the generator.
+//!
+//! Drafts from before requests 2.2 and 2.3 keep their bytes. Where a request
+//! changed the answer to a setup, the draft goes on by the earlier answer, and the
+//! log is read by the later one.
 
 use super::bytes::put;
 use super::committee::{let_in_later, random_params, random_scalar, Committee};
-use crate::arith::Scalar;
+use crate::arith::{Scalar, Q};
 use crate::params::{Params, Party, MOST_NARROW, MOST_PARTIES};
 use crate::records::Tag;
 use crate::refusal::Refusal;
 use crate::rng::Rng;
-use crate::run::Run;
+use crate::run::{Run, Stage};
 use std::collections::BTreeSet;
 
 /// The tags of document 01.
@@ -34,6 +38,8 @@ pub struct Draft {
     pub tags: &'static [Tag],
     /// The bound on n that its refused setups go by: document 01's or request 2.2's.
     pub most_parties: u32,
+    /// Are keys that are the identity among its refused setups (request 2.3)?
+    pub identity_keys: bool,
     /// The shift that the challenges are given with; CH gives them where there is none.
     pub shift: Option<Scalar>,
 }
@@ -55,6 +61,7 @@ impl Draft {
             noise: 0,
             tags: &FIRST_TAGS,
             most_parties: if params.n <= MOST_NARROW { MOST_NARROW } else { MOST_PARTIES },
+            identity_keys: false,
             shift: None,
         }
     }
@@ -99,6 +106,16 @@ impl Draft {
     pub fn with_wide_bounds(mut self) -> Draft {
         self.most_parties = MOST_PARTIES;
         self.with_every_tag()
+    }
+
+    /// Keys that are the identity are among its refused setups. Its own key is
+    /// another: where lots drew s = 0, one more is drawn.
+    pub fn with_identity_keys(mut self, rng: &mut Rng) -> Draft {
+        self.identity_keys = true;
+        if self.committee.has_identity_key() {
+            self.committee.secret = Scalar::of(i64::from(rng.between(1, Q - 1)));
+        }
+        self
     }
 
     /// CS gives the challenges with this shift, and is among the refused records.
@@ -159,10 +176,22 @@ impl Draft {
         record
     }
 
-    /// Adds a record that the run takes.
+    /// Adds a record that the run takes. Where document 01 took the draft's setup
+    /// and request 2.3 refuses it, the draft goes on by document 01.
     pub fn accept(&mut self, record: &[u8]) {
-        assert_eq!(self.run.give(record), Ok(()));
+        if self.was_taken(record) {
+            assert_eq!(self.run.give(record), Err(Refusal::IdentityKey));
+            self.run.setup = Some(self.committee.setup());
+            self.run.stage = Stage::Dealing;
+        } else {
+            assert_eq!(self.run.give(record), Ok(()));
+        }
         self.bytes.extend(record);
+    }
+
+    /// Is the record the draft's setup, and one that document 01 alone takes?
+    fn was_taken(&self, record: &[u8]) -> bool {
+        self.committee.has_identity_key() && Tag::of(record) == Some(Tag::Su)
     }
 
     /// Adds a whole record that the run refuses so. Where document 01 refused a

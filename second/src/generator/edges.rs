@@ -7,7 +7,7 @@ use super::document::{self, record};
 use super::draft::{Draft, FIRST_TAGS};
 use super::log_set::LogSet;
 use super::spoil;
-use crate::arith::{Element, P, Q};
+use crate::arith::{GroupNumber, P, Q};
 use crate::params::Params;
 use crate::records::{setup_length, Tag};
 use crate::refusal::Refusal;
@@ -74,8 +74,7 @@ fn extreme_parameters(rng: &mut Rng) -> Vec<u8> {
 fn bad_keys(rng: &mut Rng) -> Vec<u8> {
     let mut draft = small_draft(rng);
     for number in [0, 2, 3, 4, 5, Q - 1, Q, Q + 1, P - 4, P - 1, P, P + 1, P + 4, u32::MAX] {
-        let is_element = Element::read(number).is_some();
-        if !is_element {
+        if GroupNumber::read(number) == GroupNumber::NoElement {
             draft.refuse(&record("SU", &[4, 1, 1, 0], &[number, 4]), Refusal::Element);
             draft.refuse(&record("SU", &[4, 1, 1, 0], &[4, number]), Refusal::Element);
         }

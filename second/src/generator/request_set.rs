@@ -3,9 +3,12 @@
 
 use super::committee::let_in_later;
 use crate::arith::Q;
+use crate::log::read_log;
 use crate::params::Params;
+use crate::refusal::Refusal;
 use crate::requests::{Call, Request};
 use crate::rng::Rng;
+use crate::run::Stage;
 
 /// The requests gathered so far.
 #[derive(Default)]
@@ -15,10 +18,14 @@ pub struct RequestSet {
 
 impl RequestSet {
     /// Adds a request that must get this number. Where document 01 gave 4 to
-    /// parameters that request 2.2 lets in, it must get another.
+    /// parameters that request 2.2 lets in, it must get another; where document 01
+    /// took a key that request 2.3 refuses, it must get request 2.3's.
     pub fn add(&mut self, request: Request, number: u8) {
         let (answer, let_in) = (request.answer().0, names_let_in(&request));
-        let right = if number == 4 && let_in { answer != 4 } else { answer == number };
+        let right = match number {
+            4 if let_in => answer != 4,
+            _ => answer == later_number(&request, number),
+        };
         assert!(right, "{answer}, not {number}: {request:?}");
         self.requests.push(request);
     }
@@ -47,6 +54,23 @@ fn names_let_in(request: &Request) -> bool {
         Call::Su { params, .. } | Call::De { params, .. } => let_in_later(params),
         Call::Ve { .. } | Call::Re { .. } => false,
     }
+}
+
+/// What request 2.3 makes of document 01's number: s = 0 is refused with 16 before
+/// 9, and a log whose setup it refuses leaves a run at stage 0.
+fn later_number(request: &Request, number: u8) -> u8 {
+    match &request.call {
+        Call::Su { s: 0, .. } if matches!(number, 0 | 9) => 16,
+        Call::Ve { log, .. } | Call::Re { log, .. } if has_identity_key(log) => 11,
+        _ => number,
+    }
+}
+
+/// Has the log a setup with the identity as its key, and no other that is taken?
+fn has_identity_key(log: &[u8]) -> bool {
+    let reading = read_log(log);
+    let mut refusals = reading.refused().map(|(_, refusal)| refusal);
+    reading.run.stage == Stage::Fresh && refusals.any(|refusal| refusal == Refusal::IdentityKey)
 }
 
 /// Every choice of one or more numbers, each in the given order.

@@ -1,9 +1,10 @@
 //! Records made to be refused, each with the number it must be refused with.
 
 use super::bytes::{get, put};
+use super::committee::{put_identity_key, KEY_PLACE};
 use super::committee::{random_params, random_scalar, random_wide_params};
 use super::draft::Draft;
-use crate::arith::{Element, Scalar, P, Q};
+use crate::arith::{GroupNumber, Scalar, P, Q};
 use crate::params::{Party, MOST_PARTIES};
 use crate::records::{setup_length, Tag};
 use crate::refusal::Refusal;
@@ -11,11 +12,11 @@ use crate::rng::Rng;
 use crate::run::Stage;
 
 /// The refusals that a whole record of the right stage can get, in the order
-/// of document 01.
+/// of document 01, with 16 of request 2.3 directly after 7.
 fn faults_of(tag: Tag) -> &'static [Refusal] {
     use Refusal as R;
     match tag {
-        Tag::Su => &[R::Reserved, R::Bounds, R::Element],
+        Tag::Su => &[R::Reserved, R::Bounds, R::Element, R::IdentityKey],
         Tag::De => &[R::Reserved, R::Party, R::Element, R::Scalar, R::Again],
         Tag::Ve => &[R::Reserved, R::Party, R::Mask, R::Again, R::FalseBlame],
         Tag::Ch | Tag::Cs => &[R::Reserved, R::Scalar],
@@ -28,6 +29,7 @@ fn possible_faults(draft: &Draft, tag: Tag) -> Vec<Refusal> {
     let possible = |&fault: &Refusal| match fault {
         Refusal::Again => !senders(draft).is_empty(),
         Refusal::Mask => draft.params().n < draft.mask_bits(),
+        Refusal::IdentityKey => draft.identity_keys,
         _ => true,
     };
     faults_of(tag).iter().copied().filter(possible).collect()
@@ -119,6 +121,7 @@ fn make_fault(draft: &Draft, fault: Refusal, record: &mut Vec<u8>, rng: &mut Rng
         Refusal::Outsider => record[2] = rng.pick(&outsiders(draft)) as u8,
         Refusal::FalseBlame => blame_falsely(draft, record, rng),
         Refusal::Response => break_response(record, rng),
+        Refusal::IdentityKey => put_identity_key(record),
         _ => panic!("not a fault of a whole record"),
     }
 }
@@ -147,10 +150,13 @@ fn break_bounds(record: &mut Vec<u8>, most_parties: u32, rng: &mut Rng) {
     record.resize(setup_length(record[3]), 1);
 }
 
-/// Puts a number that is no element in place of an element.
+/// Puts a number that is no element in place of an element. An S that was made the
+/// identity stays.
 fn break_element(draft: &Draft, record: &mut [u8], rng: &mut Rng) {
+    let t = draft.params().t as usize;
     let (first, count) = match Tag::of(record) {
-        Some(Tag::Su) => (6, draft.params().t as usize + 1),
+        Some(Tag::Su) if draft.identity_keys && get(record, KEY_PLACE) == 1 => (KEY_PLACE + 4, t),
+        Some(Tag::Su) => (KEY_PLACE, t + 1),
         _ => (4, draft.params().quorum()),
     };
     let offset = first + 4 * edge_or_any(count, rng);
@@ -162,7 +168,7 @@ fn break_element(draft: &Draft, record: &mut [u8], rng: &mut Rng) {
 fn not_an_element(element: u32, rng: &mut Rng) -> u32 {
     let others = [0, P, P - 1, 5, element + P, P - element, u32::MAX];
     let number = rng.pick(&others);
-    assert_eq!(Element::read(number), None);
+    assert_eq!(GroupNumber::read(number), GroupNumber::NoElement);
     number
 }
 
@@ -240,7 +246,8 @@ pub fn alien(draft: &Draft, tag: Tag, rng: &mut Rng) -> Vec<u8> {
     }
 }
 
-/// An SU of its own length: within the bounds or with any t.
+/// An SU of its own length: within the bounds or with any t. Its S may be 1 where
+/// the draft has keys that are the identity among its refused setups.
 fn alien_setup(draft: &Draft, rng: &mut Rng) -> Vec<u8> {
     let wide = draft.most_parties == MOST_PARTIES && rng.chance(50);
     let params = if wide { random_wide_params(rng) } else { random_params(None, rng) };
@@ -248,5 +255,8 @@ fn alien_setup(draft: &Draft, rng: &mut Rng) -> Vec<u8> {
     let t = if rng.chance(60) { params.t as u8 } else { any_t };
     let mut record = [b'S', b'U', params.n as u8, t, params.a as u8, 0].to_vec();
     record.resize(setup_length(t), 1);
+    if draft.identity_keys && rng.chance(50) {
+        put_identity_key(&mut record);
+    }
     record
 }

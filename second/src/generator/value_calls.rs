@@ -83,7 +83,7 @@ pub fn su_bounds(gathered: &mut RequestSet, inside: &[Triple], outside: &[Triple
     }
 }
 
-/// Scalars, counts and buffers at their edges.
+/// Scalars, counts and buffers at their edges. Request 2.3 refuses s = 0.
 fn su_values(gathered: &mut RequestSet) {
     for (s, number) in [(0, 0), (Q - 1, 0), (Q, 6), (u32::MAX, 6)] {
         gathered.add(su_request((4, 1, 1), s, vec![1], 14), number);

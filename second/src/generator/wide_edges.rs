@@ -7,7 +7,6 @@ use super::draft::Draft;
 use super::edges::{changed, complaint_flood, cut_tails, draft_at, jumbled, padded, spliced};
 use super::log_set::LogSet;
 use super::wide::{draft_of, light_draft, LIGHT};
-use crate::log::read_log;
 use crate::records::Tag;
 use crate::refusal::Refusal;
 use crate::report::LONGEST_LOG;
@@ -115,8 +114,13 @@ fn cut_complaints(gathered: &mut LogSet, params: Triple, rng: &mut Rng) {
 
 /// A complete log cut a byte before, at and a byte after the ends of some records.
 fn cut_between(gathered: &mut LogSet, params: Triple, rng: &mut Rng) {
-    let log = completed(draft_of(params, rng), rng);
-    let ends: Vec<usize> = read_log(&log).answers.iter().map(|given| given.place.end).collect();
+    let mut draft = draft_of(params, rng);
+    let mut ends = Vec::new();
+    while !draft.at_end() {
+        draft.step(rng);
+        ends.push(draft.bytes.len());
+    }
+    let log = draft.bytes;
     for end in ends.iter().step_by(11).chain(&ends[ends.len() - 4..]) {
         for length in [end - 1, *end, end + 1] {
             gathered.add("wide-cut-between", log[..length.min(log.len())].to_vec());
