@@ -115,7 +115,7 @@ fn missing_else(coverage: &Coverage) -> Vec<String> {
 /// Without CS the coverage is not whole.
 #[test]
 fn shifts_are_asked_for() {
-    let mut coverage = coverage_without(&["shift", "wide"]);
+    let mut coverage = coverage_without(&["shift", "wide", "identity"]);
     let answers = [0, 11, 2, 3, 6].map(|number| format!("CS answered {number}"));
     let ends = ["done with the shift 0", "done with another shift"].map(str::to_string);
     assert_eq!(missing_else(&coverage), [&answers[..], &ends].concat());
@@ -129,7 +129,7 @@ fn shifts_are_asked_for() {
 /// one log of setups shows, all is missing that it asks of 33, 63 and 64 parties.
 #[test]
 fn more_than_32_parties_are_asked_for() {
-    let mut coverage = coverage_without(&["wide"]);
+    let mut coverage = coverage_without(&["wide", "identity"]);
     assert_eq!(missing_else(&coverage), Vec::<String>::new());
     let missing = coverage.missing_wide();
     let of_more = |what: &String| {
@@ -155,7 +155,8 @@ fn has_identity_key(log: &NamedLog) -> bool {
 /// reading them ends with what comes after their setup.
 #[test]
 fn some_earlier_logs_have_the_identity_as_their_key() {
-    let refused: Vec<&NamedLog> = logs().iter().filter(|log| has_identity_key(log)).collect();
+    let earlier = logs().iter().filter(|log| !log.kind.contains("identity"));
+    let refused: Vec<&NamedLog> = earlier.filter(|log| has_identity_key(log)).collect();
     assert_eq!(refused.len(), 21);
     for log in refused {
         let page = format!("refuse 1 16\nrefuse 2 11\n{NO_SETS}end 0\n");
@@ -176,9 +177,19 @@ fn large_committees_are_completed() {
         "wide-shifted",
         "wide-bad-at-limit",
         "wide-size-65536",
+        "identity-key",
+        "identity-refused-first",
+        "identity-of-every-size",
+        "identity-flood",
+        "identity-and-no-element",
+        "identity-holder-keys",
+        "identity-commitments",
+        "identity-zero-dealing",
+        "identity-rekeyed-complete",
     ] {
         for log in logs().iter().filter(|log| log.kind.starts_with(kind)) {
-            let end = if has_identity_key(log) { "end 0\n" } else { "end 5\n" };
+            let kept = !kind.starts_with("identity") && has_identity_key(log);
+            let end = if kept { "end 0\n" } else { "end 5\n" };
             assert!(report(&log.bytes).ends_with(end), "{}", log.kind);
         }
     }

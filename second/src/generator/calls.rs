@@ -2,6 +2,7 @@
 
 use super::broken_calls::{broken_streams, mixed_stream};
 use super::document_calls::document_requests;
+use super::identity_calls::identity_requests;
 use super::request_set::RequestSet;
 use super::run_calls::{re_requests, ve_requests};
 use super::shift_calls::shift_requests;
@@ -21,6 +22,7 @@ pub fn all_streams(seed: u64) -> Vec<Vec<u8>> {
     streams.extend(broken_streams());
     streams.extend(in_streams(&requests_with_shifts(seed)));
     streams.extend(in_streams(&requests_above_32(seed)));
+    streams.extend(in_streams(&requests_with_identities(seed)));
     streams
 }
 
@@ -46,7 +48,9 @@ fn not_too_long(requests: &[Request]) -> Vec<Vec<u8>> {
 
 /// Every whole request that a seed gives.
 pub fn all_requests(seed: u64) -> Vec<Request> {
-    [first_requests(seed), requests_with_shifts(seed), requests_above_32(seed)].concat()
+    let groups =
+        [first_requests, requests_with_shifts, requests_above_32, requests_with_identities];
+    groups.into_iter().flat_map(|group| group(seed)).collect()
 }
 
 /// Those of document 01.
@@ -70,5 +74,12 @@ pub fn requests_with_shifts(seed: u64) -> Vec<Request> {
 pub fn requests_above_32(seed: u64) -> Vec<Request> {
     let mut gathered = RequestSet::default();
     wide_requests(&mut gathered, &mut Rng::new(seed));
+    gathered.requests
+}
+
+/// Those about a key that is the identity.
+pub fn requests_with_identities(seed: u64) -> Vec<Request> {
+    let mut gathered = RequestSet::default();
+    identity_requests(&mut gathered, &mut Rng::new(seed));
     gathered.requests
 }

@@ -1,8 +1,9 @@
 //! Every kind of log: those of document 01, committees that run their course
 //! with and without faults, logs at the limits of the format (in `edges`), logs
-//! with CS (in `shifts` and `shift_edges`), and logs of more than 32 parties (in
-//! `wide`, `wide_masks` and `wide_edges`). New kinds stand last, so that the
-//! others keep their places and bytes.
+//! with CS (in `shifts` and `shift_edges`), logs of more than 32 parties (in `wide`,
+//! `wide_masks` and `wide_edges`), and logs with identities (in `identity`,
+//! `identity_values` and `rekeyed`). New kinds stand last, so that the others keep
+//! their places and bytes.
 
 use super::committee::random_params;
 use super::course::{completed, with_every_fault};
@@ -10,7 +11,8 @@ use super::document;
 use super::draft::Draft;
 use super::edges;
 use super::log_set::{LogSet, NamedLog};
-use super::{shift_edges, shifts, wide, wide_edges, wide_masks};
+use super::{identity, identity_values, rekeyed, shift_edges, shifts};
+use super::{wide, wide_edges, wide_masks};
 use crate::params::{Params, MOST_NARROW};
 use crate::rng::Rng;
 use crate::run::Stage;
@@ -52,6 +54,13 @@ pub fn all_logs(seed: u64) -> Vec<NamedLog> {
         wide_edges::cut_logs,
         wide_edges::size_logs,
         wide_edges::changed_logs,
+        identity::setup_logs,
+        identity::element_logs,
+        identity::order_logs,
+        identity_values::holder_key_logs,
+        identity_values::commitment_logs,
+        identity_values::mixed_logs,
+        rekeyed::rekeyed_logs,
     ];
     for group in groups {
         group(&mut gathered, &mut rng);

@@ -8,11 +8,11 @@
 //! - `spoil`: records made to be refused with an intended number
 //! - `course`: a draft that goes on, with refused records in between
 //! - `log_set`: logs gathered by kind
-//! - `edges`, `shifts`, `shift_edges`, `wide`, `wide_masks`, `wide_edges`, `logs`:
-//!   every kind of log
+//! - `edges`, `shifts`, `shift_edges`, `wide`, `wide_masks`, `wide_edges`,
+//!   `identity`, `identity_values`, `rekeyed`, `logs`: every kind of log
 //! - `request_set`: writer requests gathered, each with its intended number
-//! - `document_calls`, `value_calls`, `run_calls`, `shift_calls`, `wide_calls`:
-//!   every kind of writer request
+//! - `document_calls`, `value_calls`, `run_calls`, `shift_calls`, `wide_calls`,
+//!   `identity_calls`: every kind of writer request
 //! - `broken_calls`: broken requests, and streams that are cut or too long
 //! - `calls`: every stream
 
@@ -25,8 +25,12 @@ pub mod document;
 pub mod document_calls;
 pub mod draft;
 pub mod edges;
+pub mod identity;
+pub mod identity_calls;
+pub mod identity_values;
 pub mod log_set;
 pub mod logs;
+pub mod rekeyed;
 pub mod request_set;
 pub mod run_calls;
 pub mod shift_calls;

@@ -17,7 +17,8 @@ use crate::run::Stage;
 pub fn shift_requests(gathered: &mut RequestSet, rng: &mut Rng) {
     document_requests(gathered);
     for params in some_params() {
-        re_pairs(gathered, params, rng);
+        let draft = Draft::new(params, rng);
+        re_pairs(gathered, draft, rng);
     }
     every_stage(gathered, some_params()[1], rng);
     refused_challenges(gathered, some_params()[2], rng);
@@ -47,8 +48,8 @@ fn challenged(draft: &Draft, challenges: &[u8]) -> Draft {
 }
 
 /// RE after CH, and after CS with the same challenges and several shifts.
-fn re_pairs(gathered: &mut RequestSet, params: Params, rng: &mut Rng) {
-    let draft = Draft::new(params, rng).with_bad_dealers(1, rng);
+pub fn re_pairs(gathered: &mut RequestSet, draft: Draft, rng: &mut Rng) {
+    let draft = draft.with_bad_dealers(1, rng);
     let draft = draft_at(Stage::Challenging, draft, rng);
     let (ch, j) = (draft.committee.ch(rng), draft.holders[0]);
     let plain = re_request(&challenged(&draft, &ch), j);

@@ -57,14 +57,18 @@ pub fn cut_logs(gathered: &mut LogSet, rng: &mut Rng) {
 /// CS as long as CH, and CH as long as CS, with a record after it.
 pub fn length_logs(gathered: &mut LogSet, rng: &mut Rng) {
     for stage in [Stage::Dealing, Stage::Challenging, Stage::Responding] {
-        let draft = small_draft_at(stage, rng);
-        let (ch, cs) = (draft.committee.ch(rng), draft.committee.cs(Scalar::ONE, rng));
-        let rest = completed(draft.clone(), rng)[draft.bytes.len()..].to_vec();
-        let short = [&draft.bytes, &b"CS"[..], &ch[2..], &rest].concat();
+        let [short, long] = other_lengths(&small_draft_at(stage, rng), rng);
         gathered.add("shift-of-the-length-of-ch", short);
-        let long = [&draft.bytes, &b"CH"[..], &cs[2..], &rest].concat();
         gathered.add("ch-of-the-length-of-shift", long);
     }
+}
+
+/// The draft with a CS too short, and with a CH too long, before the rest of it.
+pub fn other_lengths(draft: &Draft, rng: &mut Rng) -> [Vec<u8>; 2] {
+    let (ch, cs) = (draft.committee.ch(rng), draft.committee.cs(Scalar::ONE, rng));
+    let rest = completed(draft.clone(), rng)[draft.bytes.len()..].to_vec();
+    [[b"CS", &ch[2..]], [b"CH", &cs[2..]]]
+        .map(|record| [&draft.bytes, &record.concat()[..], &rest].concat())
 }
 
 /// CS before senseless bytes, good logs with a shift changed at random, and

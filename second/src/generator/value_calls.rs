@@ -37,7 +37,7 @@ const OTHER_COUNTS: [usize; 5] = [0, 300, 1_024, 1_025, 2_000];
 /// Lengths of buffers that no record has.
 const OTHER_LENGTHS: [usize; 2] = [0, 65_535];
 
-fn su_request(params: Triple, s: u32, key_values: Vec<u32>, buffer_length: usize) -> Request {
+pub fn su_request(params: Triple, s: u32, key_values: Vec<u32>, buffer_length: usize) -> Request {
     let call = Call::Su { params, s, key_values };
     Request { call, buffer_length: buffer_length as u16 }
 }
@@ -105,7 +105,7 @@ pub fn su_spoiled(gathered: &mut RequestSet, good: &Request, outside: &[Triple],
 }
 
 /// Makes an SU request one that must be refused so.
-fn spoil_su(request: &mut Request, number: u8, outside: &[Triple], rng: &mut Rng) {
+pub fn spoil_su(request: &mut Request, number: u8, outside: &[Triple], rng: &mut Rng) {
     let Call::Su { params, s, key_values } = &mut request.call else { panic!("not SU") };
     match number {
         4 => *params = rng.pick(outside),

@@ -52,18 +52,19 @@ pub fn marked(n: u8) -> Vec<Party> {
 /// Single bits of the mask, blaming falsely and truly.
 pub fn bit_logs(gathered: &mut LogSet, rng: &mut Rng) {
     for n in [31, 32, 33, 63, 64] {
-        gathered.add("wide-every-bit", every_bit((n, 1, 1), rng));
+        let draft = draft_of((n, 1, 1), rng);
+        gathered.add("wide-every-bit", every_bit(draft, rng));
         for dealer in marked(n) {
             gathered.add("wide-one-blamed", one_blamed((n, 1, 1), dealer, rng));
         }
         gathered.add("wide-all-blamed", all_blamed((n, 1, 1), rng));
     }
-    gathered.add("wide-every-bit", every_bit((64, 21, 1), rng));
+    let draft = draft_of((64, 21, 1), rng);
+    gathered.add("wide-every-bit", every_bit(draft, rng));
 }
 
 /// Each bit of the mask in turn blames falsely, then all do, then the rest.
-fn every_bit(params: Triple, rng: &mut Rng) -> Vec<u8> {
-    let draft = draft_of(params, rng);
+pub fn every_bit(draft: Draft, rng: &mut Rng) -> Vec<u8> {
     let mut draft = draft_at(Stage::Complaining, draft, rng);
     let (n, bits, holder) = (draft.params().n, draft.mask_bits(), draft.holders[0]);
     let refusal = |party: Party| if party > n { Refusal::Mask } else { Refusal::FalseBlame };
