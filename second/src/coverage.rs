@@ -1,7 +1,8 @@
 //! Which refusal numbers and last stages a set of logs reaches, what becomes of
-//! the CS records in it, and what it shows of 31 to 64 parties.
+//! the CS records in it, and what it shows of 31 to 64 parties and of identities.
 
 use crate::arith::Scalar;
+use crate::identity_coverage;
 use crate::log::{read_log, Reading};
 use crate::records::Tag;
 use crate::refusal::answer_number;
@@ -11,7 +12,7 @@ use crate::wide_coverage;
 use std::collections::{BTreeMap, BTreeSet};
 
 /// The numbers with which a record can be refused.
-const RECORD_REFUSALS: [u8; 13] = [1, 2, 3, 4, 5, 6, 7, 8, 11, 12, 13, 14, 15];
+const RECORD_REFUSALS: [u8; 14] = [1, 2, 3, 4, 5, 6, 7, 8, 11, 12, 13, 14, 15, 16];
 
 /// The numbers that answer CS records, 0 for acceptance.
 const SHIFT_ANSWERS: [u8; 5] = [0, 11, 2, 3, 6];
@@ -20,7 +21,7 @@ const SHIFT_ANSWERS: [u8; 5] = [0, 11, 2, 3, 6];
 const UNSHIFTED: &str = "done with the shift 0";
 const SHIFTED: &str = "done with another shift";
 
-#[derive(Default)]
+#[derive(Clone, Default)]
 pub struct Coverage {
     pub logs: usize,
     /// Logs too long to be read.
@@ -33,8 +34,8 @@ pub struct Coverage {
     pub shift_answers: BTreeMap<u8, usize>,
     /// How many logs ended at stage 5 after an accepted CS, by kind of shift.
     pub done_by_shift: BTreeMap<&'static str, usize>,
-    /// What some log shows of 31 to 64 parties, in words.
-    pub wide: BTreeSet<String>,
+    /// What some log shows of 31 to 64 parties and of identities, in words.
+    pub shown: BTreeSet<String>,
 }
 
 impl Coverage {
@@ -50,7 +51,8 @@ impl Coverage {
             *self.refusals.entry(refusal.number()).or_default() += 1;
         }
         self.add_shifts(&reading);
-        self.wide.extend(wide_coverage::shown(log, &reading));
+        self.shown.extend(wide_coverage::shown(log, &reading));
+        self.shown.extend(identity_coverage::shown(log, &reading));
     }
 
     fn add_shifts(&mut self, reading: &Reading) {
@@ -73,13 +75,22 @@ impl Coverage {
         let never = kinds.filter(|kind| !self.done_by_shift.contains_key(kind));
         missing.extend(never.map(str::to_string));
         missing.extend(self.missing_wide());
+        missing.extend(self.missing_identities());
         missing
     }
 
     /// What is never shown of 31 to 64 parties.
     pub fn missing_wide(&self) -> Vec<String> {
-        let wanted = wide_coverage::wanted().into_iter();
-        wanted.filter(|what| !self.wide.contains(what)).collect()
+        self.never_shown(wide_coverage::wanted())
+    }
+
+    /// What is never shown of identities.
+    pub fn missing_identities(&self) -> Vec<String> {
+        self.never_shown(identity_coverage::wanted())
+    }
+
+    fn never_shown(&self, wanted: Vec<String>) -> Vec<String> {
+        wanted.into_iter().filter(|what| !self.shown.contains(what)).collect()
     }
 
     /// The counts and whatever is missing, a line each.
@@ -89,9 +100,9 @@ impl Coverage {
         lines.extend(counted("stage", &self.stages));
         lines.extend(counted("CS answered", &self.shift_answers));
         lines.extend(self.done_by_shift.iter().map(|(kind, count)| format!("{kind}: {count}")));
-        let wanted = wide_coverage::wanted().len();
-        let shown = wanted - self.missing_wide().len();
-        lines.push(format!("shown of 31 to 64 parties: {shown} of {wanted}"));
+        lines.push(counted_shown("31 to 64 parties", wide_coverage::wanted(), self.missing_wide()));
+        let missing = self.missing_identities();
+        lines.push(counted_shown("identities", identity_coverage::wanted(), missing));
         lines.extend(self.missing().iter().map(|what| format!("missing {what}")));
         lines
     }
@@ -101,6 +112,12 @@ impl Coverage {
 fn absent(kind: &str, wanted: &[u8], counts: &BTreeMap<u8, usize>) -> Vec<String> {
     let absent = wanted.iter().filter(|number| !counts.contains_key(number));
     absent.map(|number| format!("{kind} {number}")).collect()
+}
+
+/// How much of what is wanted is shown, as a line.
+fn counted_shown(of: &str, wanted: Vec<String>, missing: Vec<String>) -> String {
+    let (shown, wanted) = (wanted.len() - missing.len(), wanted.len());
+    format!("shown of {of}: {shown} of {wanted}")
 }
 
 /// How often each number occurs, a line each.

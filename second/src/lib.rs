@@ -13,13 +13,14 @@
 //! - `log`, `report`: cutting a log, printing its report
 //! - `writers`, `requests`: making records, and the stream that asks for them
 //! - `generator`, `rng`: logs and requests for the comparison
-//! - `coverage`, `wide_coverage`: what the logs reach
+//! - `coverage`, `wide_coverage`, `identity_coverage`: what the logs reach
 
 #![forbid(unsafe_code)]
 
 pub mod arith;
 pub mod coverage;
 pub mod generator;
+pub mod identity_coverage;
 pub mod log;
 pub mod params;
 pub mod records;

@@ -18,7 +18,7 @@ const USAGE: &str = "usage:
   second write < REQUESTS               answer a stream of writer requests
   second check-coverage DIR             name the refusals and stages the logs reach,
                                         the answers to CS, and what is missing of
-                                        31 to 64 parties";
+                                        31 to 64 parties and of identities";
 
 /// The seed when none is given.
 const DEFAULT_SEED: u64 = 1;

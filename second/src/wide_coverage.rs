@@ -10,7 +10,7 @@ use std::collections::BTreeSet;
 
 /// The numbers with which a record of each tag can be refused.
 const REFUSALS: [(Tag, &[u8]); 6] = [
-    (Tag::Su, &[11, 2, 3, 4, 7]),
+    (Tag::Su, &[11, 2, 3, 4, 7, 16]),
     (Tag::De, &[11, 2, 3, 5, 7, 6, 12]),
     (Tag::Ve, &[11, 2, 3, 5, 8, 12, 13]),
     (Tag::Ch, &[11, 2, 3, 6]),

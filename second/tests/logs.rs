@@ -106,10 +106,17 @@ fn coverage_without(words: &[&str]) -> Coverage {
     coverage
 }
 
-/// What is missing, more than 32 parties aside.
+/// What the logs reach that are neither of more than 32 parties nor about
+/// identities, found once.
+fn first_coverage() -> Coverage {
+    static COVERAGE: OnceLock<Coverage> = OnceLock::new();
+    COVERAGE.get_or_init(|| coverage_without(&["wide", "identity"])).clone()
+}
+
+/// What is missing, more than 32 parties and identities aside.
 fn missing_else(coverage: &Coverage) -> Vec<String> {
-    let wide = coverage.missing_wide();
-    coverage.missing().into_iter().filter(|what| !wide.contains(what)).collect()
+    let aside = [coverage.missing_wide(), coverage.missing_identities()].concat();
+    coverage.missing().into_iter().filter(|what| !aside.contains(what)).collect()
 }
 
 /// Without CS the coverage is not whole.
@@ -129,7 +136,7 @@ fn shifts_are_asked_for() {
 /// one log of setups shows, all is missing that it asks of 33, 63 and 64 parties.
 #[test]
 fn more_than_32_parties_are_asked_for() {
-    let mut coverage = coverage_without(&["wide", "identity"]);
+    let mut coverage = first_coverage();
     assert_eq!(missing_else(&coverage), Vec::<String>::new());
     let missing = coverage.missing_wide();
     let of_more = |what: &String| {
@@ -144,6 +151,13 @@ fn more_than_32_parties_are_asked_for() {
     let log = logs().iter().find(|log| log.kind == "wide-shifted-64-15-10").expect("such a log");
     coverage.add(&log.bytes);
     assert!(!coverage.missing_wide().contains(&done));
+}
+
+/// Without the logs about identities the coverage is not whole.
+#[test]
+fn identities_are_asked_for() {
+    let done = "done after SU answered 16".to_string();
+    assert!(first_coverage().missing().contains(&done));
 }
 
 /// Does the log begin with a setup whose S is 1?
