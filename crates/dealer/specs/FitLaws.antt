@@ -8,7 +8,7 @@ use lib.ListN.{length, getD}
 use mathlib.Core.Bool.{true}
 use borrow.Author.Tests.{eqb-true, ltb-true}
 use Rattle.lists.specs.Tests.{allTo}
-use Rattle.lists.specs.TestLaws.{passed, and-left}
+use Rattle.lists.specs.TestLaws.{passed, both-passed, and-left}
 use Rattle.field.specs.Definitions.{isScalar}
 use Rattle.parameters.specs.Definitions.{quorum}
 use Rattle.records.specs.Tags.{setupLength, dealingLength}
@@ -27,11 +27,9 @@ pub record SetupFits (n t a s : ℕ) (shares : List ℕ) (room : ℕ) : Type 0 w
 pub setup-fits : (n t a s : ℕ) (shares : List ℕ) (room : ℕ) → setupRefused n t a s shares room ≡ 0 → SetupFits n t a s shares room
 unfolding setupRefused
 setup-fits n t a s shares room e =
-    let p = passed _ _ _ e (omega arith) in
-    let q = passed _ _ _ (p .1) (omega arith) in
-    let r = passed _ _ _ (q .1) (omega arith) in
-    let v = passed _ _ _ (r .1) (omega arith) in
-    let w = passed _ _ _ (v .1) (omega arith) in
+    let p = both-passed _ _ _ _ _ e (omega arith) (omega arith) in
+    let q = both-passed _ _ _ _ _ (p .2) (omega arith) (omega arith) in
+    let r = passed _ _ _ (q .2) (omega arith) in
     record {
       bounds = bounds-of n t a (p .0);
       count = eqb-true _ _ (search);
@@ -52,16 +50,13 @@ pub record DealingFits (n t a i : ℕ) (values : List ℕ) (room : ℕ) : Type 0
 pub dealing-fits : (n t a i : ℕ) (values : List ℕ) (room : ℕ) → dealingRefused n t a i values room ≡ 0 → DealingFits n t a i values room
 unfolding dealingRefused
 dealing-fits n t a i values room e =
-    let p = passed _ _ _ e (omega arith) in
-    let q = passed _ _ _ (p .1) (omega arith) in
-    let r = passed _ _ _ (q .1) (omega arith) in
-    let v = passed _ _ _ (r .1) (omega arith) in
-    let w = passed _ _ _ (v .1) (omega arith) in
-    let party = party-of n i (q .0) in
+    let p = both-passed _ _ _ _ _ e (omega arith) (omega arith) in
+    let q = both-passed _ _ _ _ _ (p .2) (omega arith) (omega arith) in
+    let party = party-of n i (p .1) in
     record {
       bounds = bounds-of n t a (p .0);
       party-pos = party .0;
       party-max = party .1;
-      count = eqb-true _ _ (r .0);
-      exact = eqb-true _ _ (w .0);
+      count = eqb-true _ _ (q .0);
+      exact = eqb-true _ _ (passed _ _ _ (q .2) (omega arith) .0);
     }

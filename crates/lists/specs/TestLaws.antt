@@ -110,6 +110,13 @@ unfolding require
 passed true k x e p = (refl, e)
 passed false k x e p = absurd (omega arith)
 
+-- of two tests in a row
+pub both-passed : (b c : Bool) (k m x : ℕ) → require b k (require c m x) ≡ 0 → 0 < k → 0 < m → (b ≡ true) × (c ≡ true) × (x ≡ 0)
+both-passed b c k m x e p r =
+    let first = passed b k (require c m x) e p in
+    let second = passed c m x (first .1) r in
+    (first .0, second .0, second .1)
+
 -- no refusal: none before, and none after
 pub or-next : (k next : ℕ) → orNext k next ≡ 0 → (k ≡ 0) × (next ≡ 0)
 unfolding orNext

@@ -9,7 +9,7 @@ use lib.ListN.{length}
 use lib.Dec.{leb}
 use borrow.Author.Tests.{le-leb, ltb-true, lt-ltb, eqb-true, eq-eqb, not-true}
 use Rattle.lists.specs.Tests.{allTo}
-use Rattle.lists.specs.TestLaws.{and-right, all-at, all-make, require-pass, passed, or-next, next-pass}
+use Rattle.lists.specs.TestLaws.{and-right, all-at, all-make, require-pass, passed, both-passed, or-next, next-pass}
 use Rattle.sets.specs.Masks.{has}
 use Rattle.sets.specs.MaskLaws.{has-above}
 use Rattle.sets.specs.WidthLaws.{width-of}
@@ -32,17 +32,15 @@ pub record PassedSetup (s : List ℕ) : Type 0 where
 pub setup-passed : (s : List ℕ) → setupRefusal s ≡ 0 → PassedSetup s
 unfolding setupRefusal
 setup-passed s e =
-    let p = passed _ _ _ e (omega arith) in
-    let q = passed _ _ _ (p .1) (omega arith) in
-    let r = passed _ _ _ (q .1) (omega arith) in
-    let v = passed _ _ _ (r .1) (omega arith) in
-    let w = passed _ _ _ (v .1) (omega arith) in
+    let p = both-passed _ _ _ _ _ e (omega arith) (omega arith) in
+    let q = passed _ _ _ (p .2) (omega arith) in
+    let r = both-passed _ _ _ _ _ (q .1) (omega arith) (omega arith) in
     record {
-      bounds = bounds-of _ _ _ (r .0);
+      bounds = bounds-of _ _ _ (q .0);
       elements = λ j l. all-at (byteAt s 3 + 1) (λ j. isElement (word s 6 j)) (search) j (omega arith);
       key = not-true (isIdentity (word s 6 0)) (search);
       long = eqb-true _ _ (and-right (leb 6 (length s)) _ (p .0));
-      reserved = eqb-true _ _ (q .0);
+      reserved = eqb-true _ _ (p .1);
     }
 
 pub setup-passes : (s : List ℕ) → PassedSetup s → setupRefusal s ≡ 0

@@ -4,9 +4,10 @@ use borrow.Author.Needs.{needs}
 use borrow.Author.Tests.{eq-eqb, ne-eqb, le-ltb, lt-ltb}
 use native.Mathlib.Nat.{le-of-eq, pos-of-ne-zero}
 use lib.Dec.{eqb, ltb}
+use lib.ListN.{getD}
 use mathlib.Core.Bool.{false}
 use Rattle.field.specs.Definitions.{isScalar}
-use Rattle.lists.specs.Tests.{require}
+use Rattle.lists.specs.Tests.{allTo, require}
 use Rattle.lists.specs.TestLaws.{require-true, require-false}
 use Rattle.lists.specs.CallLaws.{holds, fails, equals, differs}
 use Rattle.records.specs.Tags.{setupLength}
@@ -40,31 +41,26 @@ returns-3 c =
 all-scalars-requires : tie.Need-all-scalars-requires
 all-scalars-requires c κs = search needs
 
-returns-4 : tie.Need-returns-4
+-- s is a scalar: what is left of the refusal; the lemmas below go on from it
+scalar : (c : tie.Else3) → let a = c .before .before .before .before .before .before .args in
+    require (allTo (a .t) (λ j. isScalar (getD (a .shares .now) j 0))) 6 (require (ltb 0 (a .s)) 16 (require (eqb (a .room) (setupLength (a .t))) 9 0))
+    ≡ setupRefused (a .n) (a .t) (a .a) (a .s) (a .shares .now) (a .room)
 unfolding setupRefused require
+scalar c =
+    let count = c .before .before in
+    rw (holds (count .before .before .in-bounds .ensures) (count .before .if1 .left), eq-eqb _ _ (count .if2 .left), holds (c .before .accepts .ensures) (c .if3 .left))
+
+returns-4 : tie.Need-returns-4
 returns-4 c =
     let key = c .before .before in
-    let count = key .before .before in
-    rw (
-      holds (count .before .before .in-bounds .ensures) (count .before .if1 .left),
-      eq-eqb _ _ (count .if2 .left),
-      holds (key .before .accepts .ensures) (key .if3 .left),
-      counted _ (count .if2 .left) (fails (c .before .all-scalars .ensures) (c .if4 .taken)),
-    )
+    sym (require-false _ 6 _ (counted _ (key .before .before .if2 .left) (fails (c .before .all-scalars .ensures) (c .if4 .taken)))) ∙ scalar key
 
 -- all but s = 0 and the room is settled
 settled : (c : tie.Else4) → let a = c .before .before .before .before .before .before .before .before .args in
     require (ltb 0 (a .s)) 16 (require (eqb (a .room) (setupLength (a .t))) 9 0) ≡ setupRefused (a .n) (a .t) (a .a) (a .s) (a .shares .now) (a .room)
-unfolding setupRefused require
 settled c =
     let key = c .before .before in
-    let count = key .before .before in
-    rw (
-      holds (count .before .before .in-bounds .ensures) (count .before .if1 .left),
-      eq-eqb _ _ (count .if2 .left),
-      holds (key .before .accepts .ensures) (key .if3 .left),
-      counted _ (count .if2 .left) (holds (c .before .all-scalars .ensures) (c .if4 .left)),
-    )
+    sym (require-true _ 6 _ (counted _ (key .before .before .if2 .left) (holds (c .before .all-scalars .ensures) (c .if4 .left)))) ∙ scalar key
 
 returns-5 : tie.Need-returns-5
 returns-5 c = sym (require-false _ 16 _ (le-ltb 0 _ (le-of-eq (c .if5 .taken)))) ∙ settled (c .before)
