@@ -1,7 +1,7 @@
 -- The laws of elements: a group of order q, with scalars as exponents, in which the generator's powers differ. Assumes nothing.
 use mathlib.Core.Path.{_≡_, refl, sym, ap, ap₂, _∙_}
 use mathlib.Core.Logic.{_≢_, _↔_}
-use mathlib.Core.Bool.{Bool, true, false, _&&_}
+use mathlib.Core.Bool.{Bool, true, false, _&&_, and-eq-true-iff}
 use Prim.Native.Nat.{ℕ, _+_, _*_, _^_, _%_, _<_}
 use native.Mathlib.Omega.{arith}
 use native.Mathlib.Nat.{mod-lt, mod-eq-of-lt, mul-comm, pow-zero, pos-of-ne-zero, lt-trans}
@@ -72,14 +72,10 @@ element-test : (v : ℕ) → isElement v ≡ (ltb 0 v && (ltb v P && eqb (powerO
 unfolding isElement readElement
 element-test v = member _ _
 
-both : (a b : Bool) → (a && b) ≡ true → (a ≡ true) × (b ≡ true)
-both true b e = (refl, e)
-both false b e = absurd (mathlib.Core.Bool.false≢true e)
-
 tested : (v : ℕ) → isElement v ≡ true → (ltb 0 v ≡ true) × (ltb v P ≡ true) × (eqb (powerOf P v q) 1 ≡ true)
 tested v h =
-    let p = both (ltb 0 v) _ (sym (element-test v) ∙ h) in
-    let r = both (ltb v P) _ (p .1) in
+    let p = and-eq-true-iff (ltb 0 v) _ .0 (sym (element-test v) ∙ h) in
+    let r = and-eq-true-iff (ltb v P) _ .0 (p .1) in
     (p .0, r .0, r .1)
 
 pub below : (v : Element) → IsElement v → Below v
