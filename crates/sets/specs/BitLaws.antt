@@ -4,12 +4,13 @@ use mathlib.Core.Path.{_≡_, refl, sym, ap, ap₂, _∙_}
 use mathlib.Core.Bool.{false, not, _&&_, _||_}
 use Prim.Native.Nat.{ℕ, zero, suc, _+_, _*_, _-_, _/_, _%_, _^_, _≤_, _<_, min, max}
 use native.Mathlib.Omega.{arith}
-use native.Mathlib.Nat.{zero-add, suc-add, pow-suc, mul-comm, div-one, div-div-eq-div-mul}
+use native.Mathlib.Nat.{zero-add, suc-add, pow-suc, one-mul, mul-comm, div-one, div-div-eq-div-mul}
+use lib.Pow.{shl-exact}
 use lib.Bits.{bitAnd, bitOr, block-half, block-odd, and-step, and-le-l, or-step}
 use mathlib.Core.Logic.{_≢_}
 use borrow.Author.Tests.{eqb-false}
 use lib.Dec.{eqb, eqb·zero-suc, eqb·suc-zero, eqb·suc-suc}
-use Rattle.sets.specs.Masks.{bit, minus}
+use Rattle.sets.specs.Masks.{bit, maskBits, minus}
 
 -- what holds of the four pairs of digit-pairs
 digit-pairs : (P : ℕ → ℕ → Type 0) → P 0 0 → P 0 1 → P 1 0 → P 1 1 → (x y : ℕ) → x < 2 → y < 2 → P x y
@@ -64,6 +65,10 @@ bit-is m zero = ap (λ (x : ℕ). eqb (x % 2) 1) (sym (div-one m))
 bit-is m (suc i) =
     bit-is (m / 2) i
     ∙ ap (λ (x : ℕ). eqb (x % 2) 1) (div-div-eq-div-mul m 2 (2 ^ i) ∙ ap (λ (x : ℕ). m / x) (mul-comm 2 (2 ^ i) ∙ sym (pow-suc 2 i)))
+
+-- one bit as code makes it: shifted up within the word
+pub one-shifted : (k : ℕ) → k < maskBits → 1 * 2 ^ k % 2 ^ maskBits ≡ 2 ^ k
+one-shifted k l = shl-exact {a = 1} 1 k maskBits (omega arith) (omega arith) ∙ one-mul (2 ^ k)
 
 -- ---- a mask of k bits below another
 

@@ -1,19 +1,14 @@
 -- `insert` meets its contract: 0 and the numbers above 64 change nothing, any other sets a bit of the mask.
 -- Assumes nothing.
-use mathlib.Core.Path.{_≡_, sym, ap, _∙_}
-use Prim.Native.Nat.{ℕ, _-_, _*_, _%_, _^_, _<_}
-use native.Mathlib.Nat.{one-mul}
+use mathlib.Core.Path.{sym, ap, _∙_}
+use Prim.Native.Nat.{_-_}
 use native.Mathlib.Omega.{arith}
 use borrow.Author.Needs.{needs}
 use lib.Bits.{bitOr}
-use lib.Pow.{shl-exact}
+use Rattle.sets.specs.BitLaws.{one-shifted}
 use Rattle.sets.specs.MaskLaws.{insert-zero, insert-above, insert-at}
 use Rattle.sets.proofs.insert.Statement.{statement}
 use Rattle.sets.proofs.insert.Tie as tie
-
--- one bit, shifted
-shifted : (k : ℕ) → k < 64 → 1 * 2 ^ k % 2 ^ 64 ≡ 2 ^ k
-shifted k l = shl-exact {a = 1} 1 k 64 (omega arith) (omega arith) ∙ one-mul (2 ^ k)
 
 returns : tie.Need-returns
 returns c = rw (c .if1 .taken) (sym (insert-zero (c .before .args .mask)))
@@ -33,7 +28,7 @@ shl-result c = search needs
 returns-3 : tie.Need-returns-3
 returns-3 c =
     let a = c .before .before .args in
-    ap (bitOr (a .mask)) (shifted (a .i - 1) (omega arith)) ∙ sym (insert-at (a .mask) (a .i) (omega arith) (omega arith))
+    ap (bitOr (a .mask)) (one-shifted (a .i - 1) (omega arith)) ∙ sym (insert-at (a .mask) (a .i) (omega arith) (omega arith))
 
 pub insert-spec : {M : Type 1} → statement M
 insert-spec = tie.close (tie.spec returns returns-2 sub-result cast-result shl-result returns-3)
