@@ -81,29 +81,26 @@ impl Coverage {
 
     /// What is never shown of 31 to 64 parties.
     pub fn missing_wide(&self) -> Vec<String> {
-        self.never_shown(wide_coverage::wanted())
+        never_shown(wide_coverage::wanted(), &self.shown)
     }
 
     /// What is never shown of identities.
     pub fn missing_identities(&self) -> Vec<String> {
-        self.never_shown(identity_coverage::wanted())
+        never_shown(identity_coverage::wanted(), &self.shown)
     }
 
-    fn never_shown(&self, wanted: Vec<String>) -> Vec<String> {
-        wanted.into_iter().filter(|what| !self.shown.contains(what)).collect()
-    }
-
-    /// The counts and whatever is missing, a line each.
+    /// The counts, a line each.
     pub fn lines(&self) -> Vec<String> {
         let mut lines = vec![format!("logs {}", self.logs), format!("long {}", self.long)];
         lines.extend(counted("refusal", &self.refusals));
         lines.extend(counted("stage", &self.stages));
         lines.extend(counted("CS answered", &self.shift_answers));
         lines.extend(self.done_by_shift.iter().map(|(kind, count)| format!("{kind}: {count}")));
-        lines.push(counted_shown("31 to 64 parties", wide_coverage::wanted(), self.missing_wide()));
-        let missing = self.missing_identities();
-        lines.push(counted_shown("identities", identity_coverage::wanted(), missing));
-        lines.extend(self.missing().iter().map(|what| format!("missing {what}")));
+        let kinds = [
+            ("31 to 64 parties", wide_coverage::wanted()),
+            ("identities", identity_coverage::wanted()),
+        ];
+        lines.extend(kinds.map(|(of, wanted)| counted_shown(of, &wanted, &self.shown)));
         lines
     }
 }
@@ -114,10 +111,15 @@ fn absent(kind: &str, wanted: &[u8], counts: &BTreeMap<u8, usize>) -> Vec<String
     absent.map(|number| format!("{kind} {number}")).collect()
 }
 
+/// What is wanted and is not shown.
+pub fn never_shown(wanted: Vec<String>, shown: &BTreeSet<String>) -> Vec<String> {
+    wanted.into_iter().filter(|what| !shown.contains(what)).collect()
+}
+
 /// How much of what is wanted is shown, as a line.
-fn counted_shown(of: &str, wanted: Vec<String>, missing: Vec<String>) -> String {
-    let (shown, wanted) = (wanted.len() - missing.len(), wanted.len());
-    format!("shown of {of}: {shown} of {wanted}")
+pub fn counted_shown(of: &str, wanted: &[String], shown: &BTreeSet<String>) -> String {
+    let count = wanted.iter().filter(|what| shown.contains(*what)).count();
+    format!("shown of {of}: {count} of {}", wanted.len())
 }
 
 /// How often each number occurs, a line each.

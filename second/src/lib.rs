@@ -3,8 +3,9 @@
 //! It is written from documents 01 and 02 alone and shares no code and no
 //! algorithm with the proved core. Where the two could meet, this one is built
 //! the plain way: accepted records stand in order of arrival, sets are sorted
-//! sets of party numbers, the weights of interpolation come from solving the
-//! Vandermonde system by Gaussian elimination, and a shift is one more dealing.
+//! sets of party numbers, counted member by member, the weights of interpolation
+//! come from solving the Vandermonde system by Gaussian elimination, and a shift
+//! is one more dealing.
 //!
 //! - `arith`: scalars and group elements
 //! - `weights`: interpolation
@@ -12,8 +13,10 @@
 //! - `run`: the stages
 //! - `log`, `report`: cutting a log, printing its report
 //! - `writers`, `requests`: making records, and the stream that asks for them
-//! - `generator`, `rng`: logs and requests for the comparison
+//! - `masks`: counting members, and the stream that asks for it
+//! - `generator`, `rng`: logs, requests and masks for the comparison
 //! - `coverage`, `wide_coverage`, `identity_coverage`: what the logs reach
+//! - `mask_coverage`: what the masks show
 
 #![forbid(unsafe_code)]
 
@@ -22,6 +25,8 @@ pub mod coverage;
 pub mod generator;
 pub mod identity_coverage;
 pub mod log;
+pub mod mask_coverage;
+pub mod masks;
 pub mod params;
 pub mod records;
 pub mod refusal;

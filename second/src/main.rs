@@ -1,11 +1,13 @@
-//! The program `second`: prints reports, makes logs and requests, answers requests.
-//! Written from documents 01 and 02 alone.
+//! The program `second`: prints reports, answers requests and counts members, and
+//! makes logs, requests and masks. Written from documents 01 and 02 alone.
 
 use second::coverage::Coverage;
 use second::generator::calls::all_streams;
 use second::generator::logs::all_logs;
+use second::generator::mask_streams::mask_streams;
+use second::mask_coverage::MaskCoverage;
 use second::report::report;
-use second::requests::answer_stream;
+use second::{masks, requests};
 use std::fs;
 use std::io::{self, Read, Write};
 use std::path::{Path, PathBuf};
@@ -16,9 +18,12 @@ const USAGE: &str = "usage:
   second generate DIR [--seed N]        write logs
   second requests DIR [--seed N]        write streams of writer requests
   second write < REQUESTS               answer a stream of writer requests
+  second masks DIR [--seed N]           write streams of masks
+  second count < MASKS                  count the members of a stream of masks
   second check-coverage DIR             name the refusals and stages the logs reach,
                                         the answers to CS, and what is missing of
-                                        31 to 64 parties and of identities";
+                                        31 to 64 parties, of identities, and in the
+                                        streams of masks";
 
 /// The seed when none is given.
 const DEFAULT_SEED: u64 = 1;
@@ -37,12 +42,15 @@ fn main() -> ExitCode {
 
 fn obey(words: &[&str]) -> io::Result<ExitCode> {
     match words {
-        ["page"] => page(),
-        ["write"] => write(),
+        ["page"] => answer(report),
+        ["write"] => answer(requests::answer_stream),
+        ["count"] => answer(masks::answer_stream),
         ["generate", directory] => generate(directory, DEFAULT_SEED),
         ["generate", directory, "--seed", seed] => generate(directory, parse_seed(seed)?),
-        ["requests", directory] => requests(directory, DEFAULT_SEED),
-        ["requests", directory, "--seed", seed] => requests(directory, parse_seed(seed)?),
+        ["requests", directory] => write_requests(directory, DEFAULT_SEED),
+        ["requests", directory, "--seed", seed] => write_requests(directory, parse_seed(seed)?),
+        ["masks", directory] => write_masks(directory, DEFAULT_SEED),
+        ["masks", directory, "--seed", seed] => write_masks(directory, parse_seed(seed)?),
         ["check-coverage", directory] => check_coverage(directory),
         _ => {
             eprintln!("{USAGE}");
@@ -65,15 +73,10 @@ fn read_input() -> io::Result<Vec<u8>> {
     Ok(input)
 }
 
-fn page() -> io::Result<ExitCode> {
-    let log = read_input()?;
-    io::stdout().write_all(report(&log).as_bytes())?;
-    Ok(ExitCode::SUCCESS)
-}
-
-fn write() -> io::Result<ExitCode> {
-    let stream = read_input()?;
-    io::stdout().write_all(answer_stream(&stream).as_bytes())?;
+/// Prints what is answered to the input.
+fn answer(to: fn(&[u8]) -> String) -> io::Result<ExitCode> {
+    let input = read_input()?;
+    io::stdout().write_all(to(&input).as_bytes())?;
     Ok(ExitCode::SUCCESS)
 }
 
@@ -88,34 +91,47 @@ fn generate(directory: &str, seed: u64) -> io::Result<ExitCode> {
     Ok(ExitCode::SUCCESS)
 }
 
-fn requests(directory: &str, seed: u64) -> io::Result<ExitCode> {
+fn write_requests(directory: &str, seed: u64) -> io::Result<ExitCode> {
+    write_streams(directory, "requests", &all_streams(seed))
+}
+
+fn write_masks(directory: &str, seed: u64) -> io::Result<ExitCode> {
+    write_streams(directory, "masks", &mask_streams(seed))
+}
+
+fn write_streams(directory: &str, extension: &str, streams: &[Vec<u8>]) -> io::Result<ExitCode> {
     fs::create_dir_all(directory)?;
-    let streams = all_streams(seed);
-    for (number, stream) in (1..).zip(&streams) {
-        fs::write(Path::new(directory).join(format!("{number:03}.requests")), stream)?;
+    for (number, stream) in (1..).zip(streams) {
+        fs::write(Path::new(directory).join(format!("{number:03}.{extension}")), stream)?;
     }
     println!("{} streams", streams.len());
     Ok(ExitCode::SUCCESS)
 }
 
 fn check_coverage(directory: &str) -> io::Result<ExitCode> {
-    let mut coverage = Coverage::default();
-    for path in log_paths(directory)? {
-        coverage.add(&fs::read(path)?);
+    let (mut logs, mut masks) = (Coverage::default(), MaskCoverage::default());
+    for path in paths(directory, "log")? {
+        logs.add(&fs::read(path)?);
     }
-    for line in coverage.lines() {
+    for path in paths(directory, "masks")? {
+        masks.add(&fs::read(path)?);
+    }
+    for line in [logs.lines(), masks.lines()].concat() {
         println!("{line}");
     }
-    let whole = coverage.missing().is_empty();
-    Ok(if whole { ExitCode::SUCCESS } else { ExitCode::FAILURE })
+    let missing = [logs.missing(), masks.missing()].concat();
+    for what in &missing {
+        println!("missing {what}");
+    }
+    Ok(if missing.is_empty() { ExitCode::SUCCESS } else { ExitCode::FAILURE })
 }
 
-/// The logs in a directory, by name.
-fn log_paths(directory: &str) -> io::Result<Vec<PathBuf>> {
+/// The files in a directory with this extension, by name.
+fn paths(directory: &str, extension: &str) -> io::Result<Vec<PathBuf>> {
     let entries = fs::read_dir(directory)?.collect::<io::Result<Vec<_>>>()?;
     let paths = entries.into_iter().map(|entry| entry.path());
-    let mut logs: Vec<PathBuf> =
-        paths.filter(|path| path.extension().is_some_and(|e| e == "log")).collect();
-    logs.sort();
-    Ok(logs)
+    let mut named: Vec<PathBuf> =
+        paths.filter(|path| path.extension().is_some_and(|e| e == extension)).collect();
+    named.sort();
+    Ok(named)
 }

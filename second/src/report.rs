@@ -8,10 +8,13 @@ use std::collections::BTreeSet;
 /// The longest log that is read.
 pub const LONGEST_LOG: usize = 65_536;
 
+/// All that is answered to a longer one.
+pub const LONG: &str = "long\n";
+
 /// The report of a log, every line with its line feed.
 pub fn report(log: &[u8]) -> String {
     if log.len() > LONGEST_LOG {
-        return "long\n".to_string();
+        return LONG.to_string();
     }
     let reading = read_log(log);
     let lines = report_lines(&reading);

@@ -16,17 +16,14 @@
 
 use crate::log::read_log;
 use crate::refusal::answer_number;
-use crate::report::LONGEST_LOG;
+use crate::report::{LONG, LONGEST_LOG};
 use crate::writers::{write_de, write_re, write_su, write_ve};
 
 /// The longest stream that is read.
 pub const LONGEST_STREAM: usize = 262_144;
 
-/// All that is answered to a longer one.
-const LONG: &str = "long\n";
-
 /// The answer to a broken request.
-const BROKEN: &str = "broken\n";
+pub const BROKEN: &str = "broken\n";
 
 /// What a buffer is filled with before the writer is called.
 const FILLER: u8 = 0xA5;

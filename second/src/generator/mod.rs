@@ -1,4 +1,4 @@
-//! Seeded logs and writer requests for comparing this program with another.
+//! Seeded logs, writer requests and masks for comparing this program with another.
 //! Each module uses those above it in this list alone.
 //!
 //! - `bytes`: numbers inside a record
@@ -14,7 +14,8 @@
 //! - `document_calls`, `value_calls`, `run_calls`, `shift_calls`, `wide_calls`,
 //!   `identity_calls`: every kind of writer request
 //! - `broken_calls`: broken requests, and streams that are cut or too long
-//! - `calls`: every stream
+//! - `calls`: every stream of requests
+//! - `mask_streams`: every stream of masks
 
 pub mod broken_calls;
 pub mod bytes;
@@ -30,6 +31,7 @@ pub mod identity_calls;
 pub mod identity_values;
 pub mod log_set;
 pub mod logs;
+pub mod mask_streams;
 pub mod rekeyed;
 pub mod request_set;
 pub mod run_calls;
