@@ -1,7 +1,9 @@
 //! Which refusal numbers and last stages a set of logs reaches, what becomes of
-//! the CS records in it, and what it shows of 31 to 64 parties and of identities.
+//! the CS records in it, and what it shows of 31 to 64 parties, of identities and
+//! of the size of BAD.
 
 use crate::arith::Scalar;
+use crate::count_coverage;
 use crate::identity_coverage;
 use crate::log::{read_log, Reading};
 use crate::records::Tag;
@@ -34,7 +36,8 @@ pub struct Coverage {
     pub shift_answers: BTreeMap<u8, usize>,
     /// How many logs ended at stage 5 after an accepted CS, by kind of shift.
     pub done_by_shift: BTreeMap<&'static str, usize>,
-    /// What some log shows of 31 to 64 parties and of identities, in words.
+    /// What some log shows of 31 to 64 parties, of identities and of the size of
+    /// BAD, in words.
     pub shown: BTreeSet<String>,
 }
 
@@ -53,6 +56,7 @@ impl Coverage {
         self.add_shifts(&reading);
         self.shown.extend(wide_coverage::shown(log, &reading));
         self.shown.extend(identity_coverage::shown(log, &reading));
+        self.shown.extend(count_coverage::shown(&reading));
     }
 
     fn add_shifts(&mut self, reading: &Reading) {
@@ -76,6 +80,7 @@ impl Coverage {
         missing.extend(never.map(str::to_string));
         missing.extend(self.missing_wide());
         missing.extend(self.missing_identities());
+        missing.extend(self.missing_counts());
         missing
     }
 
@@ -89,6 +94,11 @@ impl Coverage {
         never_shown(identity_coverage::wanted(), &self.shown)
     }
 
+    /// What is never shown of the size of BAD.
+    pub fn missing_counts(&self) -> Vec<String> {
+        never_shown(count_coverage::wanted(), &self.shown)
+    }
+
     /// The counts, a line each.
     pub fn lines(&self) -> Vec<String> {
         let mut lines = vec![format!("logs {}", self.logs), format!("long {}", self.long)];
@@ -99,6 +109,7 @@ impl Coverage {
         let kinds = [
             ("31 to 64 parties", wide_coverage::wanted()),
             ("identities", identity_coverage::wanted()),
+            ("the size of BAD", count_coverage::wanted()),
         ];
         lines.extend(kinds.map(|(of, wanted)| counted_shown(of, &wanted, &self.shown)));
         lines

@@ -15,12 +15,14 @@
 //! - `writers`, `requests`: making records, and the stream that asks for them
 //! - `masks`: counting members, and the stream that asks for it
 //! - `generator`, `rng`: logs, requests and masks for the comparison
-//! - `coverage`, `wide_coverage`, `identity_coverage`: what the logs reach
+//! - `coverage`, `wide_coverage`, `identity_coverage`, `count_coverage`: what the
+//!   logs reach
 //! - `mask_coverage`: what the masks show
 
 #![forbid(unsafe_code)]
 
 pub mod arith;
+pub mod count_coverage;
 pub mod coverage;
 pub mod generator;
 pub mod identity_coverage;

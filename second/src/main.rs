@@ -22,8 +22,8 @@ const USAGE: &str = "usage:
   second count < MASKS                  count the members of a stream of masks
   second check-coverage DIR             name the refusals and stages the logs reach,
                                         the answers to CS, and what is missing of
-                                        31 to 64 parties, of identities, and in the
-                                        streams of masks";
+                                        31 to 64 parties, of identities, of the size
+                                        of BAD, and in the streams of masks";
 
 /// The seed when none is given.
 const DEFAULT_SEED: u64 = 1;

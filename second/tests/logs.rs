@@ -1,5 +1,6 @@
 //! Where a log is cut and where reading ends, and the set of generated logs.
 
+use second::count_coverage;
 use second::coverage::Coverage;
 use second::generator::document::{plain_setup, record, shifted, up_to_challenges, worked};
 use second::generator::log_set::NamedLog;
@@ -110,19 +111,21 @@ fn coverage_without(words: &[&str]) -> Coverage {
 /// identities, found once.
 fn first_coverage() -> Coverage {
     static COVERAGE: OnceLock<Coverage> = OnceLock::new();
-    COVERAGE.get_or_init(|| coverage_without(&["wide", "identity"])).clone()
+    COVERAGE.get_or_init(|| coverage_without(&["wide", "identity", "count"])).clone()
 }
 
-/// What is missing, more than 32 parties and identities aside.
+/// What is missing, more than 32 parties, identities and the size of BAD aside.
 fn missing_else(coverage: &Coverage) -> Vec<String> {
-    let aside = [coverage.missing_wide(), coverage.missing_identities()].concat();
+    let mut aside = coverage.missing_wide();
+    aside.extend(coverage.missing_identities());
+    aside.extend(coverage.missing_counts());
     coverage.missing().into_iter().filter(|what| !aside.contains(what)).collect()
 }
 
 /// Without CS the coverage is not whole.
 #[test]
 fn shifts_are_asked_for() {
-    let mut coverage = coverage_without(&["shift", "wide", "identity"]);
+    let mut coverage = coverage_without(&["shift", "wide", "identity", "count"]);
     let answers = [0, 11, 2, 3, 6].map(|number| format!("CS answered {number}"));
     let ends = ["done with the shift 0", "done with another shift"].map(str::to_string);
     assert_eq!(missing_else(&coverage), [&answers[..], &ends].concat());
@@ -158,6 +161,13 @@ fn more_than_32_parties_are_asked_for() {
 fn identities_are_asked_for() {
     let done = "done after SU answered 16".to_string();
     assert!(first_coverage().missing().contains(&done));
+}
+
+/// Without logs of more than 32 parties nothing is shown that is asked of the size
+/// of BAD.
+#[test]
+fn sizes_of_bad_are_asked_for() {
+    assert_eq!(first_coverage().missing_counts(), count_coverage::wanted());
 }
 
 /// Does the log begin with a setup whose S is 1?
@@ -200,6 +210,9 @@ fn large_committees_are_completed() {
         "identity-commitments",
         "identity-zero-dealing",
         "identity-rekeyed-complete",
+        "count-low-bad-at-limit",
+        "count-high-bad-at-limit",
+        "count-both-bad-at-limit",
     ] {
         for log in logs().iter().filter(|log| log.kind.starts_with(kind)) {
             let kept = !kind.starts_with("identity") && has_identity_key(log);

@@ -75,9 +75,15 @@ impl Draft {
         self.committee.params
     }
 
-    /// So many of the dealers send a wrong share to some of the holders heard.
-    pub fn with_bad_dealers(mut self, count: usize, rng: &mut Rng) -> Draft {
-        for dealer in rng.some_of(&self.dealers, count) {
+    /// So many of the dealers are bad.
+    pub fn with_bad_dealers(self, count: usize, rng: &mut Rng) -> Draft {
+        let bad = rng.some_of(&self.dealers, count);
+        self.with_bad(&bad, rng)
+    }
+
+    /// These dealers send a wrong share to some of the holders heard.
+    pub fn with_bad(mut self, bad: &[Party], rng: &mut Rng) -> Draft {
+        for &dealer in bad {
             let wronged = rng.between(1, 3) as usize;
             let holders = rng.some_of(&self.holders, wronged);
             self.wrong.extend(holders.into_iter().map(|holder| (dealer, holder)));

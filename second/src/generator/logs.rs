@@ -1,11 +1,12 @@
 //! Every kind of log: those of document 01, committees that run their course
 //! with and without faults, logs at the limits of the format (in `edges`), logs
 //! with CS (in `shifts` and `shift_edges`), logs of more than 32 parties (in `wide`,
-//! `wide_masks` and `wide_edges`), and logs with identities (in `identity`,
-//! `identity_values` and `rekeyed`). New kinds stand last, so that the others keep
-//! their places and bytes.
+//! `wide_masks` and `wide_edges`), logs with identities (in `identity`,
+//! `identity_values` and `rekeyed`), and logs about the size of BAD (in `count`).
+//! New kinds stand last, so that the others keep their places and bytes.
 
 use super::committee::random_params;
+use super::count;
 use super::course::{completed, with_every_fault};
 use super::document;
 use super::draft::Draft;
@@ -61,6 +62,7 @@ pub fn all_logs(seed: u64) -> Vec<NamedLog> {
         identity_values::commitment_logs,
         identity_values::mixed_logs,
         rekeyed::rekeyed_logs,
+        count::bad_logs,
     ];
     for group in groups {
         group(&mut gathered, &mut rng);

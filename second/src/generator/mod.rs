@@ -9,7 +9,7 @@
 //! - `course`: a draft that goes on, with refused records in between
 //! - `log_set`: logs gathered by kind
 //! - `edges`, `shifts`, `shift_edges`, `wide`, `wide_masks`, `wide_edges`,
-//!   `identity`, `identity_values`, `rekeyed`, `logs`: every kind of log
+//!   `identity`, `identity_values`, `rekeyed`, `count`, `logs`: every kind of log
 //! - `request_set`: writer requests gathered, each with its intended number
 //! - `document_calls`, `value_calls`, `run_calls`, `shift_calls`, `wide_calls`,
 //!   `identity_calls`: every kind of writer request
@@ -21,6 +21,7 @@ pub mod broken_calls;
 pub mod bytes;
 pub mod calls;
 pub mod committee;
+pub mod count;
 pub mod course;
 pub mod document;
 pub mod document_calls;

@@ -132,13 +132,26 @@ fn low_byte_first(params: Triple, rng: &mut Rng) -> Vec<u8> {
 /// As many bad dealers above 32 as may be, and one more.
 pub fn set_logs(gathered: &mut LogSet, rng: &mut Rng) {
     for params in [(34, 1, 1), (63, 20, 2), (64, 1, 1), (64, 15, 10), (64, 21, 1)] {
-        let t = usize::from(params.1);
-        gathered.add("wide-bad-at-limit", completed(bad_above(params, t, rng), rng));
-        let mut draft = draft_at(Stage::Complaining, bad_above(params, t + 1, rng), rng);
-        draft.go_to(Stage::Failed, rng);
-        add_every_alien(&mut draft, rng);
-        gathered.add("wide-too-many-bad", draft.bytes);
+        let with_bad = |count: usize, rng: &mut Rng| bad_above(params, count, rng);
+        add_at_limit(gathered, "wide", params, with_bad, rng);
     }
+}
+
+/// Adds a complete log with t bad dealers, and one with t+1 that ends at stage 6,
+/// with a record of each tag after it.
+pub fn add_at_limit(
+    gathered: &mut LogSet,
+    kind: &str,
+    params: Triple,
+    with_bad: impl Fn(usize, &mut Rng) -> Draft,
+    rng: &mut Rng,
+) {
+    let t = usize::from(params.1);
+    gathered.add(&format!("{kind}-bad-at-limit"), completed(with_bad(t, rng), rng));
+    let mut draft = with_bad(t + 1, rng);
+    draft.go_to(Stage::Failed, rng);
+    add_every_alien(&mut draft, rng);
+    gathered.add(&format!("{kind}-too-many-bad"), draft.bytes);
 }
 
 /// The last so many parties send wrong shares to each other and are heard.
