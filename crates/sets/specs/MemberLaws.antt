@@ -108,7 +108,7 @@ members-next n f =
     ∙ pick-map (λ (l : List ℕ). members n f ++ l) (f (n + 1)) ((n + 1) ∷ []) []
     ∙ ap (pick (f (n + 1)) (members n f ++ ((n + 1) ∷ []))) (append-nil (members n f))
 
-pub count-next : (n : ℕ) (f : ℕ → Bool) → count (n + 1) f ≡ pick (f (n + 1)) (count n f + 1) (count n f)
+count-next : (n : ℕ) (f : ℕ → Bool) → count (n + 1) f ≡ pick (f (n + 1)) (count n f + 1) (count n f)
 count-next n f =
     ap length (members-next n f)
     ∙ pick-map length (f (n + 1)) (members n f ++ ((n + 1) ∷ [])) (members n f)

@@ -1,5 +1,5 @@
 -- Laws of masks of w bits, over the width: one more party, a union, a difference, and the parties above. The number of members is in MemberLaws
--- (count-bits), the set of those that pass a test in MaskLaws (maskOf-lt). Assumes nothing.
+-- (count-bits) and in Sizes, the set of those that pass a test in MaskLaws (maskOf-lt). Assumes nothing.
 use mathlib.Core.Path.{_≡_, sym, _∙_}
 use mathlib.Core.Bool.{true, false, _&&_, and-eq-true-iff}
 use Prim.Native.Nat.{ℕ, zero, suc, _-_, _^_, _≤_, _<_}
@@ -7,7 +7,7 @@ use native.Mathlib.Omega.{arith}
 use native.Mathlib.Nat.{le-trans}
 use native.Mathlib.Decide.{decLe}
 use lib.Pow.{pow-pos, pow-mono, pow-lt}
-use lib.Bits.{bitAnd, bitOr, or-lt}
+use lib.Bits.{bitOr, or-lt}
 use lib.Dec.{leb}
 use borrow.Author.Tests.{leb-true}
 use Rattle.lists.specs.TestLaws.{pick-case}
