@@ -6,7 +6,6 @@ use lib.Dec.{leb, eqb}
 use Rattle.lists.specs.Tests.{pick}
 use Rattle.field.specs.declared.Scalar.{Scalar}
 use Rattle.field.specs.declared.Element.{Element}
-use Rattle.parameters.specs.Definitions.{batch}
 use Rattle.protocol.specs.Transcript.{shiftedNonce}
 use Rattle.run.specs.declared.Run.{Run}
 use Rattle.answers.specs.declared.Nonce.{Nonce}
@@ -43,7 +42,7 @@ setsOf r = pick (leb 3 (stageOf r)) (keptSets r) noSets
 
 -- u from 1 to b and k from 1 to a
 unfoldable pub inBatch : Run → ℕ → ℕ → Bool
-inBatch r u k = (leb 1 u && leb u (batch (r .setup .n) (r .setup .t))) && (leb 1 k && leb k (r .setup .a))
+inBatch r u k = (leb 1 u && leb u (r .b)) && (leb 1 k && leb k (r .setup .a))
 
 -- R(u,k) × 4^δ, once QUAL is fixed and signatures can come of it: at stages 3, 4 and 5
 unfoldable pub nonceOf : Run → ℕ → ℕ → Nonce

@@ -61,7 +61,7 @@ fn in_batch(run: Run, u: u8, k: u8) -> bool
     if u < 1 {
         return false;
     }
-    if parameters::batch(run.setup.n, run.setup.t) < u {
+    if run.b < u {
         return false;
     }
     if k < 1 {

@@ -1,4 +1,4 @@
--- The worked log of document 01 and its cases A to L, and those of document 02 (the shift, 64 parties, the identity as key), one list with the expected answers, and one fact over it.
+-- The worked log of document 01 and its cases A to L, and those of document 02 (the shift, 64 parties, the identity as key, waiting for more dealers), one list with the expected answers, and one fact over it.
 -- Assumes nothing.
 use Prim.Native.Nat.{ℕ, zero, suc, _+_, _/_, _%_}
 use mathlib.Core.Path.{_≡_, refl}
@@ -8,7 +8,7 @@ use Rattle.lists.specs.Tests.{pick}
 use Rattle.sets.specs.Masks.{has, members}
 use Rattle.field.specs.Definitions.{scalar, isElement, inverse}
 use Rattle.interpolation.specs.Definitions.{weight}
-use Rattle.records.specs.Tags.{letterC, letterD, letterE, letterH, letterR, letterS, letterU, letterV}
+use Rattle.records.specs.Tags.{letterC, letterD, letterE, letterG, letterH, letterO, letterR, letterS, letterU, letterV, letterX}
 use Rattle.protocol.specs.Transcript.{shiftedNonce}
 use Rattle.run.specs.declared.Run.{Run}
 use Rattle.run.specs.Runs.{transcriptOf, kept}
@@ -29,6 +29,13 @@ fours (x ∷ l) = four x ++ fours l
 
 setup : ℕ → ℕ → ℕ → List ℕ → List ℕ
 setup n t a l = letterS ∷ letterU ∷ n ∷ t ∷ a ∷ 0 ∷ fours l
+
+-- one whose run waits, and what ends the waiting
+waiting : ℕ → ℕ → ℕ → List ℕ → List ℕ
+waiting n t a l = letterS ∷ letterX ∷ n ∷ t ∷ a ∷ 0 ∷ fours l
+
+go : List ℕ
+go = letterG ∷ letterO ∷ []
 
 dealing : ℕ → List ℕ → List ℕ
 dealing i l = letterD ∷ letterE ∷ i ∷ 0 ∷ fours l
@@ -55,10 +62,13 @@ response j l = letterR ∷ letterE ∷ j ∷ 0 ∷ fours l
 su : List ℕ
 su = setup 4 1 1 (4 ∷ 16 ∷ [])
 
--- up to the dealings, with x and y for the shares for 2 of dealers 2 and 3
+-- the dealings, with x and y for the shares for 2 of dealers 2 and 3
+dealings : ℕ → ℕ → List (List ℕ)
+dealings x y = dealing 1 (1 ∷ 4 ∷ 1 ∷ 2 ∷ 3 ∷ 4 ∷ []) ∷ dealing 2 (4 ∷ 4 ∷ 1 ∷ x ∷ 1 ∷ 1 ∷ []) ∷ dealing 3 (16 ∷ 64 ∷ 3 ∷ y ∷ 5 ∷ 6 ∷ []) ∷ []
+
+-- up to them
 dealt : ℕ → ℕ → List (List ℕ)
-dealt x y =
-    su ∷ dealing 1 (1 ∷ 4 ∷ 1 ∷ 2 ∷ 3 ∷ 4 ∷ []) ∷ dealing 2 (4 ∷ 4 ∷ 1 ∷ x ∷ 1 ∷ 1 ∷ []) ∷ dealing 3 (16 ∷ 64 ∷ 3 ∷ y ∷ 5 ∷ 6 ∷ []) ∷ []
+dealt x y = su ∷ dealings x y
 
 -- up to the complaint rows, with mask m from holder 2
 held : ℕ → ℕ → ℕ → List (List ℕ)
@@ -73,6 +83,27 @@ signedBy s = held 1 4 0 ++ (s ∷ response 2 (10 ∷ 22 ∷ []) ∷ response 3 (
 
 worked : List (List ℕ)
 worked = signedBy (challenges (1 ∷ 2 ∷ []))
+
+sx : List ℕ
+sx = waiting 4 1 1 (4 ∷ 16 ∷ [])
+
+-- a further dealing, of 1 + 2x
+fourth : List ℕ
+fourth = dealing 4 (4 ∷ 64 ∷ 3 ∷ 5 ∷ 7 ∷ 9 ∷ [])
+
+-- the complaint rows, challenges and response rows of the first log
+verdicts : List (List ℕ)
+verdicts = complaint 2 0 ∷ complaint 3 0 ∷ complaint 4 0 ∷ []
+
+rowsOfTwo : List (List ℕ)
+rowsOfTwo = challenges (1 ∷ 2 ∷ []) ∷ response 2 (10 ∷ 22 ∷ []) ∷ response 3 (13 ∷ 28 ∷ []) ∷ []
+
+-- the first log begun by SX: with its three dealings, and with the fourth, where b is 3
+waitedThree : List (List ℕ)
+waitedThree = sx ∷ (dealings 1 4 ++ (go ∷ (verdicts ++ rowsOfTwo)))
+
+waitedFour : List (List ℕ)
+waitedFour = sx ∷ (dealings 1 4 ++ (fourth ∷ go ∷ (verdicts ++ (challenges (1 ∷ 2 ∷ 3 ∷ []) ∷ response 2 (15 ∷ 42 ∷ 131 ∷ []) ∷ response 3 (20 ∷ 56 ∷ 176 ∷ []) ∷ []))))
 
 noughts : ℕ → List ℕ
 noughts zero = []
@@ -129,6 +160,26 @@ shiftedPage =
     ∷ 115 ∷ 105 ∷ 103 ∷ 32 ∷ 49 ∷ 32 ∷ 49 ∷ 32 ∷ 54 ∷ 53 ∷ 53 ∷ 51 ∷ 54 ∷ 32 ∷ 57 ∷ 10
     ∷ 115 ∷ 105 ∷ 103 ∷ 32 ∷ 50 ∷ 32 ∷ 49 ∷ 32 ∷ 54 ∷ 55 ∷ 49 ∷ 48 ∷ 56 ∷ 56 ∷ 54 ∷ 52 ∷ 32 ∷ 49 ∷ 53 ∷ 10
     ∷ 101 ∷ 110 ∷ 100 ∷ 32 ∷ 53 ∷ 10 ∷ []
+
+-- the page of the first log begun by SX, with the fourth dealing
+waitedPage : List ℕ
+waitedPage =
+    104 ∷ 111 ∷ 108 ∷ 100 ∷ 32 ∷ 50 ∷ 32 ∷ 51 ∷ 32 ∷ 52 ∷ 10
+    ∷ 113 ∷ 117 ∷ 97 ∷ 108 ∷ 32 ∷ 49 ∷ 32 ∷ 50 ∷ 32 ∷ 51 ∷ 32 ∷ 52 ∷ 10
+    ∷ 98 ∷ 97 ∷ 100 ∷ 32 ∷ 45 ∷ 10
+    ∷ 115 ∷ 105 ∷ 103 ∷ 32 ∷ 49 ∷ 32 ∷ 49 ∷ 32 ∷ 50 ∷ 53 ∷ 54 ∷ 32 ∷ 53 ∷ 10
+    ∷ 115 ∷ 105 ∷ 103 ∷ 32 ∷ 50 ∷ 32 ∷ 49 ∷ 32 ∷ 49 ∷ 54 ∷ 55 ∷ 55 ∷ 55 ∷ 50 ∷ 49 ∷ 54 ∷ 32 ∷ 49 ∷ 52 ∷ 10
+    ∷ 115 ∷ 105 ∷ 103 ∷ 32 ∷ 51 ∷ 32 ∷ 49 ∷ 32 ∷ 50 ∷ 56 ∷ 49 ∷ 48 ∷ 52 ∷ 48 ∷ 48 ∷ 55 ∷ 51 ∷ 32 ∷ 52 ∷ 49 ∷ 10
+    ∷ 101 ∷ 110 ∷ 100 ∷ 32 ∷ 53 ∷ 10 ∷ []
+
+-- challenges before GO end the reading, at one position
+earlyPage : List ℕ
+earlyPage =
+    114 ∷ 101 ∷ 102 ∷ 117 ∷ 115 ∷ 101 ∷ 32 ∷ 53 ∷ 32 ∷ 49 ∷ 49 ∷ 10
+    ∷ 104 ∷ 111 ∷ 108 ∷ 100 ∷ 32 ∷ 45 ∷ 10
+    ∷ 113 ∷ 117 ∷ 97 ∷ 108 ∷ 32 ∷ 45 ∷ 10
+    ∷ 98 ∷ 97 ∷ 100 ∷ 32 ∷ 45 ∷ 10
+    ∷ 101 ∷ 110 ∷ 100 ∷ 32 ∷ 49 ∷ 10 ∷ []
 
 -- ---- the cases: what is computed, and what document 01 says
 
@@ -220,9 +271,32 @@ cases =
           ∷ written 1 5 15 ∷ written 1 5 14 ∷ written 1 0 14 ∷ [],
       (16 ∷ []) ∷ (16 ∷ []) ∷ (6 ∷ []) ∷ (6 ∷ []) ∷ (10 ∷ []) ∷ (9 ∷ []) ∷ (0 ∷ []) ∷ (0 ∷ []) ∷ [],
     )
+    -- document 02, request 2.5: begun by SX, the first log with its three dealings has its page; with a fourth b is 3; and challenges before GO end the
+    -- reading
+    ∷ (page waitedThree ++ (page waitedFour ++ page (sx ∷ (dealings 1 4 ++ rowsOfTwo))), workedPage ∷ waitedPage ∷ earlyPage ∷ [])
+    -- GO in its order: GP is no tag, nor G alone (1); in a fresh run, in a run begun by SU, with a byte behind it too, and after a GO (11); with a byte
+    -- behind it before any dealing and at three (2); before any and at two (17); at three and at four (0)
+    ∷ (
+      answer (sx ∷ dealings 1 4) (letterG ∷ 80 ∷ []) ∷ answer (sx ∷ dealings 1 4) (letterG ∷ [])
+          ∷ answer [] go ∷ answer (su ∷ []) go ∷ answer (su ∷ []) (letterG ∷ letterO ∷ 0 ∷ []) ∷ answer (dealt 1 4) go ∷ answer (sx ∷ (dealings 1 4 ++ (go ∷ []))) go
+          ∷ answer (sx ∷ []) (letterG ∷ letterO ∷ 0 ∷ []) ∷ answer (sx ∷ dealings 1 4) (letterG ∷ letterO ∷ 0 ∷ [])
+          ∷ answer (sx ∷ []) go ∷ answer (sx ∷ dealing 1 (1 ∷ 4 ∷ 1 ∷ 2 ∷ 3 ∷ 4 ∷ []) ∷ fourth ∷ []) go
+          ∷ answer (sx ∷ dealings 1 4) go ∷ answer (sx ∷ (dealings 1 4 ++ (fourth ∷ []))) go ∷ [],
+      (1 ∷ []) ∷ (1 ∷ []) ∷ (11 ∷ []) ∷ (11 ∷ []) ∷ (11 ∷ []) ∷ (11 ∷ []) ∷ (11 ∷ []) ∷ (2 ∷ []) ∷ (2 ∷ []) ∷ (17 ∷ []) ∷ (17 ∷ []) ∷ (0 ∷ []) ∷ (0 ∷ []) ∷ [],
+    )
+    -- SX as SU: outside the bounds 4, S_1 = 0 beside S = 1 7, S = 1 16, in a run that has a setup 11. A fourth dealing after three 0, a fifth 12, one
+    -- after GO 11; after three a complaint row 11; after the fourth and GO challenges of two numbers 2, and of three 0
+    ∷ (
+      answer [] (waiting 3 1 1 (1 ∷ 16 ∷ [])) ∷ answer [] (waiting 4 1 1 (1 ∷ 0 ∷ [])) ∷ answer [] (waiting 4 1 1 (1 ∷ 16 ∷ [])) ∷ answer (su ∷ []) sx ∷ answer (sx ∷ []) su
+          ∷ answer (sx ∷ dealings 1 4) fourth ∷ answer (sx ∷ (dealings 1 4 ++ (fourth ∷ []))) fourth ∷ answer (sx ∷ (dealings 1 4 ++ (go ∷ []))) fourth
+          ∷ answer (sx ∷ dealings 1 4) (complaint 2 0)
+          ∷ answer (sx ∷ (dealings 1 4 ++ (fourth ∷ go ∷ verdicts))) (challenges (1 ∷ 2 ∷ []))
+          ∷ answer (sx ∷ (dealings 1 4 ++ (fourth ∷ go ∷ verdicts))) (challenges (1 ∷ 2 ∷ 3 ∷ [])) ∷ [],
+      (4 ∷ []) ∷ (7 ∷ []) ∷ (16 ∷ []) ∷ (11 ∷ []) ∷ (11 ∷ []) ∷ (0 ∷ []) ∷ (12 ∷ []) ∷ (11 ∷ []) ∷ (11 ∷ []) ∷ (2 ∷ []) ∷ (0 ∷ []) ∷ [],
+    )
     ∷ []
 
 -- every case comes out as the documents say
 computed : map (λ c. c .0) cases ≡ map (λ c. c .1) cases
-unfolding opened four fours setup dealing complaint wide noughts dealtFrom dealtBy33 challenges shifted response su dealt held challenged signedBy said answer written test cases worked page workedPage shiftedPage
+unfolding opened four fours setup waiting go dealing dealings complaint wide noughts dealtFrom dealtBy33 challenges shifted response su dealt held challenged signedBy said answer written test cases worked sx fourth verdicts rowsOfTwo waitedThree waitedFour page workedPage shiftedPage waitedPage earlyPage
 computed = refl

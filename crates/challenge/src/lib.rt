@@ -4,7 +4,6 @@ ghost use Rattle.lists.specs.Stores.{stored};
 ghost use Rattle.field.specs.Definitions.{scalar};
 ghost use Rattle.records.specs.Bytes.{word};
 ghost use Rattle.challenge.specs.Definitions.{challengesFrom, withChallenges, withShifted};
-use dealing::Setup;
 use field::Scalar;
 use parameters::CELLS;
 
@@ -30,31 +29,31 @@ fn load_challenges(list: [Scalar; CELLS], bytes: &[u8], from: u16, count: u16) -
 
 impl Challenges {
     // The challenges of a record, which stand from a place on.
-    fn loaded(self, setup: Setup, bytes: &[u8], from: u16) -> [Scalar; CELLS]
-        ensures { λ r. ⌜ r ≡ challengesFrom setup self from (now (bytes .entry)) ⌝ }
+    fn loaded(self, a: u8, b: u8, bytes: &[u8], from: u16) -> [Scalar; CELLS]
+        ensures { λ r. ⌜ r ≡ challengesFrom a b self from (now (bytes .entry)) ⌝ }
     {
         let list = self.numbers;
-        let count = setup.a as u16 * parameters::batch(setup.n, setup.t) as u16;
+        let count = a as u16 * b as u16;
         load_challenges(list, bytes, from, count)
     }
 
     // Those of a CH: the shift is 0.
-    pub fn with(self, setup: Setup, bytes: &[u8]) -> Challenges
-        ensures { λ r. ⌜ r ≡ withChallenges setup self (now (bytes .entry)) ⌝ }
+    pub fn with(self, a: u8, b: u8, bytes: &[u8]) -> Challenges
+        ensures { λ r. ⌜ r ≡ withChallenges a b self (now (bytes .entry)) ⌝ }
     {
         Challenges {
             shift: Scalar::ZERO,
-            numbers: self.loaded(setup, bytes, 4),
+            numbers: self.loaded(a, b, bytes, 4),
         }
     }
 
     // Those of a CS: the shift stands before the challenges.
-    pub fn with_shifted(self, setup: Setup, bytes: &[u8]) -> Challenges
-        ensures { λ r. ⌜ r ≡ withShifted setup self (now (bytes .entry)) ⌝ }
+    pub fn with_shifted(self, a: u8, b: u8, bytes: &[u8]) -> Challenges
+        ensures { λ r. ⌜ r ≡ withShifted a b self (now (bytes .entry)) ⌝ }
     {
         Challenges {
             shift: Scalar(records::word(bytes, 4, 0)),
-            numbers: self.loaded(setup, bytes, 8),
+            numbers: self.loaded(a, b, bytes, 8),
         }
     }
 }

@@ -5,7 +5,7 @@ use lib.Dec.{eqb}
 use Rattle.lists.specs.Tests.{pick}
 use Rattle.field.specs.declared.Scalar.{Scalar}
 use Rattle.field.specs.declared.Element.{Element}
-use Rattle.parameters.specs.Definitions.{mostParties, cells, batch}
+use Rattle.parameters.specs.Definitions.{mostParties, cells}
 use Rattle.text.specs.Lines.{line, setLine}
 use Rattle.protocol.specs.Transcript.{shiftedNonce}
 use Rattle.run.specs.declared.Run.{Run}
@@ -63,5 +63,5 @@ closing r =
     setLine holdWord (r .setup .n) (setsOf r .hold)
     ++ (setLine qualWord (r .setup .n) (setsOf r .qual)
     ++ (setLine badWord (r .setup .n) (setsOf r .bad)
-    ++ (pick (eqb (stageOf r) 5) (signatureLines r (r .setup .a * batch (r .setup .n) (r .setup .t))) []
+    ++ (pick (eqb (stageOf r) 5) (signatureLines r (r .setup .a * r .b)) []
     ++ line endWord (stageOf r ∷ []))))

@@ -13,7 +13,7 @@ use Rattle.field.specs.declared.Element.{Element}
 use Rattle.field.specs.Definitions.{scalar, generator, product, raise}
 use Rattle.interpolation.specs.Definitions.{slot, committedPoint}
 use Rattle.rows.specs.Definitions.{listed, weightsOf, productOf}
-use Rattle.parameters.specs.Definitions.{cells, quorum, batch}
+use Rattle.parameters.specs.Definitions.{cells, quorum}
 use Rattle.parameters.specs.ParameterLaws.{Bounds, cells-max}
 use Rattle.text.specs.LineLaws.{line-max}
 use Rattle.protocol.specs.Transcript.{nonce, shiftedElement, shiftedNonce}
@@ -99,7 +99,7 @@ pub kept-at : (r : Run) (u k : ℕ) → kept r u (k + 1) ≡ getD (r .signatures
 unfolding kept cell
 kept-at r u k = ap (λ (j : ℕ). getD (r .signatures) ((u - 1) * r .setup .a + j) (scalar 0)) (omega arith)
 
-pub kept-below : {n t a : ℕ} → Bounds n t a → (u k : ℕ) → 0 < u → u ≤ batch n t → k < a → (u - 1) * a + k < cells
-kept-below {n} {t} {a} b u k p l c =
-    let m : (u - 1) * a + k < batch n t * a = digits-lt (omega arith) c in
-    omega (arith, cells-max b, mul-comm (batch n t) a)
+pub kept-below : {n t a b : ℕ} → Bounds n t a → b ≤ n → (u k : ℕ) → 0 < u → u ≤ b → k < a → (u - 1) * a + k < cells
+kept-below {n} {t} {a} {b} h few u k p l c =
+    let m : (u - 1) * a + k < b * a = digits-lt (omega arith) c in
+    omega (arith, cells-max h few, mul-comm b a)

@@ -3,7 +3,7 @@ ghost use mathlib.Core.Path.{_≡_};
 ghost use mathlib.Core.Bool.{true};
 ghost use Prim.Native.Nat.{_+_, _*_, _-_, _≤_, _<_};
 ghost use lib.ListN.{length};
-ghost use Rattle.parameters.specs.Definitions.{mostParties, batch};
+ghost use Rattle.parameters.specs.Definitions.{mostParties};
 ghost use Rattle.text.specs.Texts.{Wrote};
 ghost use Rattle.combination.specs.Combination.{powersAt};
 ghost use Rattle.run.specs.Runs.{wellFormed};
@@ -25,7 +25,7 @@ fn put_signature(out: &mut [u8], at: usize, u: u8, k: u8, nonce: Element, phi: S
 
 // The signature lines of one u, from the powers of the committed values for it: they are combined, and give R(u,k) at each slot k, which is shifted.
 fn put_row(out: &mut [u8], at: usize, run: Run, powers: [Element; PLACES], u: u8) -> usize
-    requires { ⌜ (wellFormed run ≡ true) × (0 < u) × (u ≤ batch (run .setup .n) (run .setup .t)) × (powers ≡ powersAt (run .setup .n) (run .dealings .commitments) (u - 1)) × (at + mostLine * run .setup .a ≤ length (now out)) ⌝ }
+    requires { ⌜ (wellFormed run ≡ true) × (0 < u) × (u ≤ run .b) × (powers ≡ powersAt (run .setup .n) (run .dealings .commitments) (u - 1)) × (at + mostLine * run .setup .a ≤ length (now out)) ⌝ }
     ensures { λ r. ⌜ Wrote (now (out .entry)) (now (out .exit)) at r (rowLines run u (run .setup .a)) ⌝ }
 {
     let shift = run.challenges.shift;
@@ -50,9 +50,9 @@ fn put_row(out: &mut [u8], at: usize, run: Run, powers: [Element; PLACES], u: u8
 // Every signature line.
 fn put_signatures(out: &mut [u8], at: usize, run: Run) -> usize
     requires { ⌜ (wellFormed run ≡ true) × (at + mostLines ≤ length (now out)) ⌝ }
-    ensures { λ r. ⌜ Wrote (now (out .entry)) (now (out .exit)) at r (signatureLines run (run .setup .a * batch (run .setup .n) (run .setup .t))) ⌝ }
+    ensures { λ r. ⌜ Wrote (now (out .entry)) (now (out .exit)) at r (signatureLines run (run .setup .a * run .b)) ⌝ }
 {
-    let count = parameters::batch(run.setup.n, run.setup.t);
+    let count = run.b;
     let mut powers = run.dealings.commitments;
     let mut next = at;
     for u in 0..count {

@@ -94,6 +94,12 @@ require-false b k x e = rw e
 pub require-pass : (b : Bool) (k x : ℕ) → b ≡ true → x ≡ 0 → require b k x ≡ 0
 require-pass b k x e z = require-true b k x e ∙ z
 
+-- what holds of its number and of the rest
+pub require-case : (P : ℕ → Type 0) (b : Bool) (k x : ℕ) → P k → P x → P (require b k x)
+unfolding require
+require-case P true k x p q = q
+require-case P false k x p q = p
+
 -- a refusal r that asks a test first: what is left of it once the test has passed, and its number where the test fails
 abbrev pub Left : {r : ℕ} (b : Bool) (k x : ℕ) → r ≡ require b k x → Type 0
 Left {r} b k x e = r ≡ x
@@ -116,6 +122,11 @@ both-passed b c k m x e p r =
     let first = passed b k (require c m x) e p in
     let second = passed c m x (first .1) r in
     (first .0, second .0, second .1)
+
+-- what holds of a refusal and of what comes next
+pub or-next-case : (P : ℕ → Type 0) (k next : ℕ) → P k → P next → P (orNext k next)
+unfolding orNext
+or-next-case P k next p q = pick-case P (eqb k 0) next k (λ e. q) (λ e. p)
 
 -- no refusal: none before, and none after
 pub or-next : (k next : ℕ) → orNext k next ≡ 0 → (k ≡ 0) × (next ≡ 0)

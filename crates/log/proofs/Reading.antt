@@ -10,9 +10,9 @@ use Rattle.text.specs.TextLaws.{wrote-none, ahead-start, ahead-next, ahead-last
 use Rattle.run.specs.declared.Run.{Run}
 use Rattle.run.specs.Runs.{fresh}
 use Rattle.run.specs.Steps.{stepOf}
-use Rattle.run.specs.FormedLaws.{Regular, regular-fresh, regular-step}
+use Rattle.run.specs.PartyLaws.{Few, few-fresh, few-step}
 use Rattle.log.specs.Cutting.{runOf, recordsOf}
-use Rattle.log.specs.Report.{mostRefusal, refusalLine, refusalLines}
+use Rattle.log.specs.Report.{longest, refusalLine, refusalLines}
 use Rattle.log.specs.LengthLaws.{lines-max}
 use Rattle.log.specs.Turns.{nextLength, nextRecord, linesFrom, runFrom}
 use Rattle.log.specs.TurnLaws.{next-pos, next-max, lines-none, lines-next, lines-start, run-none, run-next, run-start}
@@ -20,19 +20,19 @@ use Rattle.log.specs.TurnLaws.{next-pos, next-max, lines-none, lines-nex
 pub record Reading (log before after : List ℕ) (r : Run) (from at position : ℕ) : Type 0 where
   pub within : from ≤ length log
   pub counted : position ≤ from + 1
-  pub regular : Regular r
+  pub few : Few r
   pub lines : Ahead before after at (linesFrom 1 fresh log) (linesFrom position r (drop from log))
   pub same-run : runFrom r (drop from log) ≡ runFrom fresh log
 
 pub reading-start : (log out : List ℕ) (r : Run) → r ≡ fresh → Reading log out out r 0 0 1
 reading-start log out r e =
     subst⁻¹ (λ (z : Run). Reading log out out z 0 0 1) e
-    (record { within = omega arith; counted = omega arith; regular = regular-fresh; lines = ahead-start out (linesFrom 1 fresh log); same-run = refl })
+    (record { within = omega arith; counted = omega arith; few = few-fresh; lines = ahead-start out (linesFrom 1 fresh log); same-run = refl })
 
 module _ {log before after : List ℕ} {r : Run} {from at position : ℕ} (h : Reading log before after r from at position) where
   -- where the next line stands
-  pub reading-place : at ≤ 4 * length log + mostRefusal
-  reading-place = omega (arith, h .lines .place, lines-max 1 fresh log regular-fresh)
+  pub reading-place : length log ≤ longest → at ≤ 8 * length log + 16
+  reading-place l = omega (arith, h .lines .place, lines-max log l)
 
   pub reading-length : length after ≡ length before
   reading-length = ahead-length (h .lines)
@@ -52,7 +52,7 @@ module _ {log before after : List ℕ} {r : Run} {from at position : ℕ} (h : R
       record {
         within = omega (arith, left, next-max r s);
         counted = omega (arith, h .counted, next-pos r s some);
-        regular = regular-step r (h .regular) (nextRecord r s);
+        few = few-step r (h .few) (nextRecord r s);
         lines =
             ahead-next
             (subst (λ (t : List ℕ). Ahead before after at (linesFrom 1 fresh log) t)

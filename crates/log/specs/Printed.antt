@@ -7,7 +7,7 @@ use Rattle.log.specs.Report.{reportOf}
 
 -- room for every page (report-fits)
 abbrev pub mostReport : ℕ
-mostReport = 400000
+mostReport = 625000
 
 -- the whole page into a buffer with that room, else nothing
 unfoldable pub printed : ℕ → List ℕ → List ℕ

@@ -22,7 +22,7 @@ longWord = 108 ∷ 111 ∷ 110 ∷ 103 ∷ []
 abbrev pub longest : ℕ
 longest = 65536
 
--- the most bytes of a refusal's line
+-- room for a refusal's line, whatever its numbers
 abbrev pub mostRefusal : ℕ
 mostRefusal = 32
 

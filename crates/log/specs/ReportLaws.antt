@@ -13,7 +13,7 @@ use Rattle.text.specs.LineLaws.{line-max}
 use Rattle.run.specs.declared.Run.{Run}
 use Rattle.run.specs.Runs.{fresh}
 use Rattle.run.specs.Steps.{stepOf, after}
-use Rattle.run.specs.FormedLaws.{Regular, regular-fresh, regular-after}
+use Rattle.run.specs.PartyLaws.{Few, few-fresh, few-after}
 use Rattle.closing.specs.LengthLaws.{closing-max}
 use Rattle.log.specs.Cutting.{recordsOf, runOf}
 use Rattle.log.specs.Report.{longWord, longest, reportOf}
@@ -22,10 +22,10 @@ use Rattle.log.specs.Turns.{nextLength, nextRecord, nextRest, recordsFro
 use Rattle.log.specs.TurnLaws.{next-pos, records-none, records-next, lines-start}
 use Rattle.log.specs.Printed.{mostReport}
 
--- the run after a log has no more parties than a committee, and past stage 0 it is well formed
-pub run-regular : (log : List ℕ) → Regular (runOf log)
+-- the run after a log has no more parties than a committee
+pub run-few : (log : List ℕ) → Few (runOf log)
 unfolding runOf after
-run-regular log = regular-after fresh regular-fresh (recordsOf log)
+run-few log = few-after fresh few-fresh (recordsOf log)
 
 joined-none : (r : Run) (s : List ℕ) → s ≡ [] → flatten (recordsFrom r s) ≡ s
 unfolding flatten
@@ -47,10 +47,11 @@ pub records-joined : (log : List ℕ) → flatten (recordsOf log) ≡ log
 unfolding recordsOf recordsFrom
 records-joined log = joined-from (length log) fresh log (omega arith)
 
--- every page fits: 4 bytes of refusal lines for each byte of the log, and the closing
+-- every page fits: 8 bytes of refusal lines for each byte of the log, and the closing
 pub report-fits : (log : List ℕ) → length (reportOf log) ≤ mostReport
 unfolding reportOf
 report-fits log =
     pick-case (λ (l : List ℕ). length l ≤ mostReport) (ltb longest (length log)) (line longWord []) _ (λ e. omega (arith, line-max longWord []))
-    (λ e. rw (lines-start log) (simp length-append
-    (omega (arith, ltb-false longest (length log) e, lines-max 1 fresh log regular-fresh, closing-max (runOf log) (run-regular log .parties)))))
+    (λ e.
+    let short = ltb-false longest (length log) e in
+    rw (lines-start log) (simp length-append (omega (arith, short, lines-max log short, closing-max (runOf log) (run-few log)))))

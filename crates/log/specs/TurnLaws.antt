@@ -11,7 +11,7 @@ use lib.Dec.{eqb, leb}
 use borrow.Author.Tests.{leb-true, eq-eqb, ne-eqb}
 use Rattle.lists.specs.Tests.{pick}
 use Rattle.lists.specs.TestLaws.{pick-case, and-left, and-right, pick-same}
-use Rattle.records.specs.Tags.{Tag, SU, DE, VE, CH, CS, RE, unknown}
+use Rattle.records.specs.Tags.{Tag, SU, SX, DE, GO, VE, CH, CS, RE, unknown}
 use Rattle.run.specs.declared.Run.{Run}
 use Rattle.run.specs.Runs.{fresh}
 use Rattle.run.specs.Steps.{stepOf, afterFrom, after}
@@ -21,16 +21,18 @@ use Rattle.log.specs.Turns.{linesFrom, nextLength, nextRecord, nextRest,
 
 -- ---- the length of a record
 
--- before a setup only SU has a length
-pub none-yet : (k : Tag) (r : Run) (s : List ℕ) → k ≢ SU → r .stage ≡ 0 → lengthAt k r s ≡ 0
+-- before a setup only SU and SX have a length
+pub none-yet : (k : Tag) (r : Run) (s : List ℕ) → k ≢ SU → k ≢ SX → r .stage ≡ 0 → lengthAt k r s ≡ 0
 unfolding lengthAt
-none-yet SU r s d e = absurd (d refl)
-none-yet DE r s d e = rw (eq-eqb _ _ e)
-none-yet VE r s d e = rw (eq-eqb _ _ e)
-none-yet CH r s d e = rw (eq-eqb _ _ e)
-none-yet CS r s d e = rw (eq-eqb _ _ e)
-none-yet RE r s d e = rw (eq-eqb _ _ e)
-none-yet unknown r s d e = refl
+none-yet SU r s d x e = absurd (d refl)
+none-yet SX r s d x e = absurd (x refl)
+none-yet DE r s d x e = rw (eq-eqb _ _ e)
+none-yet GO r s d x e = rw (eq-eqb _ _ e)
+none-yet VE r s d x e = rw (eq-eqb _ _ e)
+none-yet CH r s d x e = rw (eq-eqb _ _ e)
+none-yet CS r s d x e = rw (eq-eqb _ _ e)
+none-yet RE r s d x e = rw (eq-eqb _ _ e)
+none-yet unknown r s d x e = refl
 
 pub whole-pos : (r : Run) (s : List ℕ) → whole r s ≡ true → 1 ≤ lengthOf r s
 unfolding whole

@@ -7,7 +7,7 @@ use Prim.Native.Nat.{ℕ, _≤_, _<_}
 use lib.ListN.{length, take, drop}
 use lib.Dec.{eqb}
 use Rattle.lists.specs.Tests.{pick}
-use Rattle.records.specs.Tags.{SU, unknown, tagOf}
+use Rattle.records.specs.Tags.{SU, SX, CH, CS, RE, unknown, tagOf}
 use Rattle.run.specs.declared.Run.{Run}
 use Rattle.run.specs.Runs.{stageOf}
 use Rattle.run.specs.Steps.{afterFrom}
@@ -46,10 +46,18 @@ Whole r s = (0 < lengthOf r s) × (lengthOf r s ≤ length s)
 abbrev pub takes : Run → List ℕ → Bool
 takes r s = eqb (stageOf r) (takenAt (tagOf s))
 
--- no setup yet, and a known tag other than SU
+-- no setup yet, and a known tag other than SU and SX
 abbrev pub BeforeSetup : Run → List ℕ → Type 0
-BeforeSetup r s = (stageOf r ≡ 0) × (tagOf s ≢ unknown) × (tagOf s ≢ SU)
+BeforeSetup r s = (stageOf r ≡ 0) × (tagOf s ≢ unknown) × (tagOf s ≢ SU) × (tagOf s ≢ SX)
 
--- a cut record: fewer bytes are left than its tag's length, for SU also under 6
+-- the run waits for GO, so that b is not fixed yet, and a tag whose length takes b
+abbrev pub BeforeGo : Run → List ℕ → Type 0
+BeforeGo r s = (r .stage ≢ 0) × (r .b ≡ 0) × ((tagOf s ≡ CH) ⊎ ((tagOf s ≡ CS) ⊎ (tagOf s ≡ RE)))
+
+-- SU or SX
+abbrev pub Begins : List ℕ → Type 0
+Begins s = (tagOf s ≡ SU) ⊎ (tagOf s ≡ SX)
+
+-- a cut record: fewer bytes are left than its tag's length, for SU and SX also under 6
 abbrev pub Cut : Run → List ℕ → Type 0
-Cut r s = (tagOf s ≢ unknown) × ((length s < lengthOf r s) ⊎ ((tagOf s ≡ SU) × (length s < 6)))
+Cut r s = (tagOf s ≢ unknown) × ((length s < lengthOf r s) ⊎ (Begins s × (length s < 6)))

@@ -8,17 +8,35 @@ ghost use Rattle.text.specs.Lines.{line};
 ghost use Rattle.text.specs.Texts.{Wrote};
 ghost use Rattle.run.specs.Runs.{fresh};
 ghost use Rattle.closing.specs.Closing.{closing};
-ghost use Rattle.log.specs.Cutting.{lengthOf, recordsOf, runOf};
+ghost use Rattle.log.specs.Cutting.{ownLength, byBatch, lengthOf, recordsOf, runOf};
 ghost use Rattle.log.specs.Report.{refuseWord, longest, mostRefusal, refusalLines};
 ghost use Rattle.log.specs.Turns.{nextLength};
 ghost use Rattle.log.specs.Printed.{mostReport, printed};
 use run::Run;
 
 // Room for every page.
-pub const REPORT: usize = 400000;
+pub const REPORT: usize = 625000;
 
 // The bytes of the longest log that is read.
 pub const LONGEST: usize = 65536;
+
+// The length of an SU or SX by its own t; 0 where it is cut before that.
+fn own_length(rest: &[u8]) -> usize
+    ensures { λ r. ⌜ r ≡ ownLength (now (rest .entry)) ⌝ }
+{
+    if rest.len() < 6 {
+        return 0;
+    }
+    let t = records::byte(rest, 3);
+    records::setup_length(t)
+}
+
+// A length that takes b, which is 0 until it is fixed: then there is no length.
+fn by_batch(b: u8, length: usize) -> usize
+    ensures { λ r. ⌜ r ≡ byBatch b length ⌝ }
+{
+    if b == 0 { 0 } else { length }
+}
 
 // The length that a log's next record has by its tag, or 0.
 pub fn record_length(run: Run, rest: &[u8]) -> usize
@@ -26,22 +44,24 @@ pub fn record_length(run: Run, rest: &[u8]) -> usize
 {
     let tag = records::tag(rest);
     let stage = run.stage;
+    let a = run.setup.a;
+    let b = run.b;
     if tag == 1 {
-        if rest.len() < 6 {
-            return 0;
-        }
-        let t = records::byte(rest, 3);
-        return records::setup_length(t);
+        return own_length(rest);
+    }
+    if tag == 7 {
+        return own_length(rest);
     }
     if stage == 0 {
         return 0;
     }
     match tag {
-        2 => records::dealing_length(run.setup.n, run.setup.t, run.setup.a),
+        2 => records::dealing_length(run.setup.n, run.setup.t, a),
         3 => records::complaint_length(run.setup.n),
-        4 => records::challenges_length(run.setup.n, run.setup.t, run.setup.a),
-        5 => records::response_length(run.setup.n, run.setup.t),
-        6 => records::shifted_length(run.setup.n, run.setup.t, run.setup.a),
+        4 => by_batch(b, records::challenges_length(a, b)),
+        5 => by_batch(b, records::response_length(b)),
+        6 => by_batch(b, records::shifted_length(a, b)),
+        8 => records::GO_LENGTH,
         _ => 0,
     }
 }

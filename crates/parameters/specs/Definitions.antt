@@ -26,9 +26,9 @@ inBounds n t a = leb 1 t && (leb 1 a && (leb n mostParties && leb (3 * t + 2 * a
 unfoldable pub quorum : ℕ → ℕ → ℕ
 quorum t a = t + 2 * a - 1
 
--- b = n - 2t: the signatures of a packed slot
+-- b = m - t with m dealings (document 02, request 2.5): the signatures of a packed slot. With n-t dealings it is n - 2t (document 01)
 unfoldable pub batch : ℕ → ℕ → ℕ
-batch n t = n - 2 * t
+batch m t = m - t
 
 -- a party's number
 abbrev pub isParty : ℕ → ℕ → Bool

@@ -52,17 +52,23 @@ quorum-max b = omega arith
 pub key-max : {n t a : ℕ} → Bounds n t a → t + a < mostParties
 key-max b = omega arith
 
-pub batch-pos : {n t a : ℕ} → Bounds n t a → 0 < batch n t
+-- b with as many dealings as document 01 waits for
+pub batch-least : (n t : ℕ) → batch (n - t) t ≡ n - 2 * t
 unfolding batch
-batch-pos b = omega arith
+batch-least n t = omega arith
 
-pub batch-max : {n t a : ℕ} → Bounds n t a → batch n t + 2 ≤ mostParties
+-- some signature, with that many dealings or more
+pub batch-pos : {n t a m : ℕ} → Bounds n t a → n - t ≤ m → 0 < batch m t
 unfolding batch
-batch-max b = omega arith
+batch-pos b l = omega arith
 
--- the challenges: one for each slot and signature
-pub cells-max : {n t a : ℕ} → Bounds n t a → a * batch n t ≤ cells
-cells-max {n} {t} {a} b =
+pub batch-max : (m t : ℕ) → batch m t ≤ m
+unfolding batch
+batch-max m t = omega arith
+
+-- the challenges: one for each slot and signature, of which there are no more than dealers
+pub cells-max : {n t a b : ℕ} → Bounds n t a → b ≤ n → a * b ≤ cells
+cells-max {n} {t} {a} {b} h l =
     let half : 2 * a ≤ mostParties = omega arith in
-    let few : batch n t ≤ mostParties = omega (arith, batch-max b) in
+    let few : b ≤ mostParties = omega arith in
     omega (arith, mul-le-mul half few)

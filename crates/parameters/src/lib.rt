@@ -40,12 +40,11 @@ pub fn quorum(t: u8, a: u8) -> u16
     if 0 < sum { sum - 1 } else { 0 }
 }
 
-// b, the signatures of a packed slot.
-pub fn batch(n: u8, t: u8) -> u8
-    ensures { λ r. ⌜ r ≡ batch n t ⌝ }
+// b, the signatures of a packed slot, with m dealings.
+pub fn batch(m: u8, t: u8) -> u8
+    ensures { λ r. ⌜ r ≡ batch m t ⌝ }
 {
-    let twice = 2 * t as u16;
-    if twice < n as u16 { n - twice as u8 } else { 0 }
+    if t < m { m - t } else { 0 }
 }
 
 pub fn is_party(n: u8, i: u8) -> bool

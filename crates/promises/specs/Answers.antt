@@ -23,7 +23,7 @@ use Rattle.promises.specs.Lists.{accepted, read, stageBy}
 use Rattle.promises.specs.Places.{isPlace}
 use Rattle.promises.specs.PlaceLaws.{place-of}
 use Rattle.complaint.specs.Definitions.{blamedBy, unblamed}
-use Rattle.promises.specs.MadeLaws.{made-stage, made-hold, made-bad, made-qual, made-alike}
+use Rattle.promises.specs.MadeLaws.{made-stage, made-hold, made-bad, made-qual, made-alike, made-batch}
 use Rattle.promises.specs.Stages.{stage-by}
 use Rattle.promises.specs.FinishedLaws.{kept-is}
 use Rattle.promises.specs.Claims.{Answers, Fixed, Unfixed, nonceBy, phiBy}
@@ -62,9 +62,9 @@ module _ (l : List (List ℕ)) where
 
   -- ---- R and φ
 
-  place-same : 0 < after l .stage → (u k : ℕ) → inBatch (after l) u k ≡ isPlace (read (accepted l)) u k
+  place-same : 1 < after l .stage → (u k : ℕ) → inBatch (after l) u k ≡ isPlace (read (accepted l)) u k
   unfolding inBatch isPlace transcriptOf transcript
-  place-same p u k = let h = made-alike l p in rw (h .n-same, h .t-same, h .a-same)
+  place-same m u k = let p : 0 < after l .stage = omega arith in rw (made-batch l p m, made-alike l p .a-same)
 
   nonce-is : (u k : ℕ) → nonceValues (nonceOf (after l) u k) ≡ nonceBy (accepted l) u k
   unfolding nonceOf nonceValues nonceBy
@@ -73,9 +73,9 @@ module _ (l : List (List ℕ)) where
       pick-map nonceValues ((leb 3 (stageOf (after l)) && leb (stageOf (after l)) 5) && inBatch (after l) u k) (N.Is (shiftedNonce (transcriptOf (after l)) u k)) N.None
       ∙ ap (λ (g : ℕ). pick ((leb 3 g && leb g 5) && inBatch (after l) u k) (shiftedNonce (transcriptOf (after l)) u k ∷ []) []) stage-is
       ∙ choice-same (leb 3 g && leb g 5) _ _ _ _ [] (λ e. place-same (live e) u k)
-      (λ e d. ap (λ (v : Element). v ∷ []) (shifted-same (transcriptOf (after l)) (read (accepted l)) (made-alike l (live e)) u k))
+      (λ e d. ap (λ (v : Element). v ∷ []) (shifted-same (transcriptOf (after l)) (read (accepted l)) (made-alike l (omega (arith, live e))) u k))
     where
-      live : (leb 3 (stageBy (accepted l)) && leb (stageBy (accepted l)) 5) ≡ true → 0 < after l .stage
+      live : (leb 3 (stageBy (accepted l)) && leb (stageBy (accepted l)) 5) ≡ true → 1 < after l .stage
       live e = omega (arith, stage-by l, leb-true 3 (stageBy (accepted l)) (and-left _ _ e))
 
   phi-is : (u k : ℕ) → phiValues (phiAnswer (after l) u k) ≡ phiBy (accepted l) u k

@@ -13,7 +13,7 @@ use Rattle.field.specs.declared.Scalar.{Scalar}
 use Rattle.field.specs.declared.Element.{Element}
 use Rattle.parameters.specs.Definitions.{quorum, batch}
 use Rattle.records.specs.Bytes.{sender, word}
-use Rattle.records.specs.Tags.{SU, DE, VE, CH, CS, RE, tagOf, sharesFrom, maskAt}
+use Rattle.records.specs.Tags.{SU, SX, DE, GO, VE, CH, CS, RE, tagOf, sharesFrom, maskAt}
 use Rattle.refusals.specs.Refusals.{complaintRefusal}
 use Rattle.text.specs.Lines.{feed, line, setText}
 use Rattle.protocol.specs.Transcript.{shiftedNonce, validShare}
@@ -27,7 +27,7 @@ use Rattle.promises.specs.Places.{Within, isPlace}
 
 -- ---- demand 3
 
--- (u,k) is a place of the list: u from 1 to b, k from 1 to a, with n, t, a of its accepted SU
+-- (u,k) is a place of the list: u from 1 to b, k from 1 to a, with t and a of its accepted SU or SX and b = m-t, m being the number of its accepted DE
 abbrev pub Place : List (List ℕ) → ℕ → ℕ → Type 0
 Place l u k = Within (read (accepted l)) u k
 
@@ -37,11 +37,14 @@ pub record Signed (l : List (List ℕ)) (u k : ℕ) : Type 0 where
   pub below : IsScalar (shiftedPhi (accepted l) u k)
   pub verifies : raise generator (shiftedPhi (accepted l) u k) ≡ product (shiftedNonce (read (accepted l)) u k) (raise (read (accepted l) .key 0) (read (accepted l) .challenge u k))
 
--- what has been accepted: one SU; n-t DE from different dealers; n-t VE from different holders, with at most t dealers in BAD; one CH or CS; and need RE
--- from different members of HOLD
+-- what has been accepted: one SU or SX; from n-t to n DE from different dealers, and just n-t with an SU; a GO with an SX alone; n-t VE from different
+-- holders, with at most t dealers in BAD; one CH or CS; and need RE from different members of HOLD
 pub record Rows (l : List (List ℕ)) : Type 0 where
-  pub setups : length (ofTag SU (accepted l)) ≡ 1
-  pub dealings : length (ofTag DE (accepted l)) ≡ read (accepted l) .n - read (accepted l) .t
+  pub setups : length (ofTag SU (accepted l)) + length (ofTag SX (accepted l)) ≡ 1
+  pub gone : length (ofTag GO (accepted l)) ≡ length (ofTag SX (accepted l))
+  pub dealings : ofTag SX (accepted l) ≡ [] → length (ofTag DE (accepted l)) ≡ read (accepted l) .n - read (accepted l) .t
+  pub dealings-least : read (accepted l) .n - read (accepted l) .t ≤ length (ofTag DE (accepted l))
+  pub dealings-most : length (ofTag DE (accepted l)) ≤ read (accepted l) .n
   pub dealers-differ : Distinct sender (ofTag DE (accepted l))
   pub complaints : length (ofTag VE (accepted l)) ≡ read (accepted l) .n - read (accepted l) .t
   pub holders-differ : Distinct sender (ofTag VE (accepted l))
@@ -134,5 +137,5 @@ module _ (l : List (List ℕ)) where
       membersLine holdWord (hold l)
       ++ (membersLine qualWord (qualified l)
       ++ (membersLine badWord (bad l)
-      ++ (pick (eqb (stageBy l) 5) (signedLines (read l .a * batch (read l .n) (read l .t))) []
+      ++ (pick (eqb (stageBy l) 5) (signedLines (read l .a * batch (read l .m) (read l .t))) []
       ++ line endWord (stageBy l ∷ []))))

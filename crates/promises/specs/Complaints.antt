@@ -1,7 +1,7 @@
 -- Complaint rows over lists: which are refused with 13, and whom the writer's row blames. Assumes nothing.
 use mathlib.Core.Path.{_≡_, refl, sym, ap, ap₂, _∙_}
 use mathlib.Core.Logic.{_≢_, _↔_}
-use mathlib.Core.Bool.{Bool, true, false, not, _&&_, _||_}
+use mathlib.Core.Bool.{Bool, true, false, not, _&&_, _||_, false≢true}
 use mathlib.Core.List.{List}
 use Prim.Native.Nat.{ℕ, zero, suc, _+_, _-_, _≤_, _<_}
 use native.Mathlib.Omega.{arith}
@@ -15,20 +15,21 @@ use Rattle.sets.specs.Masks.{has, maskOf}
 use Rattle.sets.specs.MaskLaws.{has-none, has-maskOf, has-above, has-le, maskOf-lt}
 use Rattle.field.specs.Definitions.{scalar, element}
 use Rattle.records.specs.Bytes.{word, sender}
-use Rattle.records.specs.Tags.{Tag, SU, DE, VE, CH, CS, RE, unknown, tagOf, sharesFrom, maskAt}
+use Rattle.records.specs.Tags.{Tag, SU, SX, DE, GO, VE, CH, CS, RE, unknown, tagOf, sharesFrom, maskAt}
 use Rattle.refusals.specs.Refusals.{setupRefusal, headRefusal, dealingRefusal, complaintRefusal, scalarsRefusal, challengesRefusal, shiftedRefusal, responseRefusal}
 use Rattle.refusals.specs.RefusalLaws.{complaint-passed}
 use Rattle.protocol.specs.Transcript.{validShare}
 use Rattle.run.specs.declared.Run.{Run}
 use Rattle.run.specs.Runs.{stageOf, transcriptOf}
-use Rattle.dealing.specs.Definitions.{dealingNumber, wrongShares, mayBlame}
+use Rattle.dealing.specs.Definitions.{dealingNumber, wrongShares, mayBlame, goNumber}
 use Rattle.complaint.specs.Definitions.{complaintNumber}
-use Rattle.run.specs.Steps.{afterSetup, afterDealing, afterComplaint, afterChallenges, afterShifted, afterResponse, handled, stepOf, after}
+use Rattle.run.specs.Steps.{afterSetup, afterDealing, afterGo, afterComplaint, afterChallenges, afterShifted, afterResponse, handled, stepOf, after}
 use Rattle.stages.specs.Definitions.{takenAt, atStage, handlerAt}
 use Rattle.run.specs.StepLaws.{step-taken, stage-case, answered-number}
+use Rattle.run.specs.NumberLaws.{common, setup-numbers, scalars-numbers, complaint-refusals, dealing-numbers, go-numbers, response-numbers}
 use Rattle.run.specs.declared.Reply.{Reply}
 use Rattle.stages.specs.declared.Handler.{Handler}
-use Rattle.stages.specs.declared.Handler.the-variants.{TakeSetup, TakeDealing, TakeComplaint, TakeChallenges, TakeShifted, TakeResponse}
+use Rattle.stages.specs.declared.Handler.the-variants.{TakeSetup, TakeWaiting, TakeDealing, TakeGo, TakeComplaint, TakeChallenges, TakeShifted, TakeResponse}
 use Rattle.verification.specs.Definitions.{transcript}
 use Rattle.response.specs.Definitions.{responseNumber}
 use Rattle.writers.specs.Writers.{complaintBytes}
@@ -88,55 +89,15 @@ module _ (l : List (List ℕ)) (p : 0 < after l .stage) where
 
 -- ---- what is refused with 13
 
--- a test whose refusal is another number
-other : (b : Bool) (k x : ℕ) → eqb k 13 ≡ false → x ≢ 13 → require b k x ≢ 13
-unfolding require
-other true k x p q e = q e
-other false k x p q e = eqb-false k 13 p e
-
-or-other : (k next : ℕ) → k ≢ 13 → next ≢ 13 → orNext k next ≢ 13
-unfolding orNext
-or-other k next p q e = go (eqb k 0) e
-  where
-    go : (b : Bool) → pick b next k ≡ 13 → ⊥
-    go true e = q e
-    go false e = p e
+-- none of the numbers that any record may be answered with
+other : (k : ℕ) → common k ≡ true → k ≢ 13
+other k e z = false≢true (ap common (sym z) ∙ e)
 
 -- the number of a record at its stage is 13 where its handler says so
 at-13 : (g : Tag) (a : Handler) (r : Run) (s : List ℕ) → handled (atStage g (stageOf r) a) r s .number ≡ 13 → (stageOf r ≡ takenAt g) × (handled a r s .number ≡ 13)
 at-13 g a r s = stage-case (λ (y : Reply). y .number ≡ 13 → (stageOf r ≡ takenAt g) × (handled a r s .number ≡ 13)) g a r s (λ e n. (e, n)) (λ e n. absurd (omega arith))
 
-setup-other : (s : List ℕ) → setupRefusal s ≢ 13
-unfolding setupRefusal
-setup-other s = other _ 2 _ refl (other _ 3 _ refl (other _ 4 _ refl (other _ 7 _ refl (other _ 16 0 refl (eqb-false 0 13 refl)))))
-
-head-other : (n size : ℕ) (s : List ℕ) → headRefusal n size s ≢ 13
-unfolding headRefusal
-head-other n size s = other _ 2 _ refl (other _ 3 _ refl (other _ 5 0 refl (eqb-false 0 13 refl)))
-
-scalars-other : (size count : ℕ) (s : List ℕ) → scalarsRefusal size count s ≢ 13
-unfolding scalarsRefusal
-scalars-other size count s = other _ 2 _ refl (other _ 3 _ refl (other _ 6 0 refl (eqb-false 0 13 refl)))
-
 module _ (r : Run) (s : List ℕ) where
-  dealing-other : dealingNumber (r .setup) (r .dealings) s ≢ 13
-  unfolding dealingNumber dealingRefusal
-  dealing-other =
-      or-other _ _
-      (or-other _ _ (head-other _ _ s) (other _ 7 _ refl (other _ 6 0 refl (eqb-false 0 13 refl))))
-      (other _ 12 0 refl (eqb-false 0 13 refl))
-
-  response-other : responseNumber (r .setup) (r .dealings) (r .complaints) (r .challenges) (r .responses) s ≢ 13
-  unfolding responseNumber responseRefusal
-  response-other =
-      or-other _ _
-      (or-other _ _ (head-other _ _ s) (other _ 6 0 refl (eqb-false 0 13 refl)))
-      (other _ 12 _ refl (other _ 14 _ refl (other _ 15 0 refl (eqb-false 0 13 refl))))
-
-  complaint-other : (n : ℕ) → complaintRefusal n s ≢ 13
-  unfolding complaintRefusal
-  complaint-other n = or-other _ _ (head-other _ _ s) (other _ 8 0 refl (eqb-false 0 13 refl))
-
   -- every blamed dealer may be blamed
   abbrev blamesRightly : Bool
   blamesRightly = allTo (r .setup .n) (λ i. not (has (maskAt (r .setup .n) s) (i + 1)) || mayBlame (r .dealings) (sender s) (i + 1))
@@ -150,7 +111,7 @@ module _ (r : Run) (s : List ℕ) where
       go k x true y true z d w e = absurd (omega arith)
       go k x true y false z true w e = absurd (omega arith)
       go k x true y false z false w e = (x ∙ eqb-true k 0 y, z, w)
-      go k x false y c z d w e = absurd (complaint-other (r .setup .n) (x ∙ e))
+      go k x false y c z d w e = absurd (complaint-refusals _ other (r .setup .n) s (x ∙ e))
 
   complaint-is : complaintRefusal (r .setup .n) s ≡ 0 → has (r .complaints .holders) (sender s) ≡ false → blamesRightly ≡ false → complaintNumber (r .setup) (r .dealings) (r .complaints) s ≡ 13
   unfolding complaintNumber orNext require
@@ -209,20 +170,24 @@ module _ (l : List (List ℕ)) (s : List ℕ) where
 
   number-13 : (k : Tag) → tagOf s ≡ k → handled (handlerAt k (stageOf (after l))) (after l) s .number ≡ 13 → FalseComplaint l s
   unfolding handlerAt handled takenAt challengesRefusal shiftedRefusal
-  number-13 SU m e = absurd (setup-other s (sym (answered-number (after l) (setupRefusal s) (afterSetup s)) ∙ at-13 SU TakeSetup (after l) s e .1))
+  number-13 SU m e = absurd (setup-numbers _ other s (sym (answered-number (after l) (setupRefusal s) (afterSetup false s)) ∙ at-13 SU TakeSetup (after l) s e .1))
+  number-13 SX m e = absurd (setup-numbers _ other s (sym (answered-number (after l) (setupRefusal s) (afterSetup true s)) ∙ at-13 SX TakeWaiting (after l) s e .1))
   number-13 DE m e =
-      absurd (dealing-other (after l) s (sym (answered-number (after l) (dealingNumber (after l .setup) (after l .dealings) s) (afterDealing (after l) s)) ∙ at-13 DE TakeDealing (after l) s e .1))
+      absurd (dealing-numbers _ other (after l) s (sym (answered-number (after l) (dealingNumber (after l .setup) (after l .dealings) s) (afterDealing (after l) s)) ∙ at-13 DE TakeDealing (after l) s e .1))
+  number-13 GO m e =
+      absurd (go-numbers _ other (after l) s (sym (answered-number (after l) (goNumber (after l .setup .n) (after l .setup .t) (after l .dealings .count) (after l .b) s) (afterGo (after l)))
+      ∙ at-13 GO TakeGo (after l) s e .1))
   number-13 VE m e =
       let c = at-13 VE TakeComplaint (after l) s e in
       false-of m (c .0) (sym (answered-number (after l) (complaintNumber (after l .setup) (after l .dealings) (after l .complaints) s) (afterComplaint (after l) s)) ∙ c .1)
   number-13 CH m e =
-      absurd (scalars-other _ _ s (sym (answered-number (after l) (challengesRefusal (after l .setup .n) (after l .setup .t) (after l .setup .a) s) (afterChallenges (after l) s))
+      absurd (scalars-numbers _ other _ _ s (sym (answered-number (after l) (challengesRefusal (after l .setup .a) (after l .b) s) (afterChallenges (after l) s))
       ∙ at-13 CH TakeChallenges (after l) s e .1))
   number-13 CS m e =
-      absurd (scalars-other _ _ s (sym (answered-number (after l) (shiftedRefusal (after l .setup .n) (after l .setup .t) (after l .setup .a) s) (afterShifted (after l) s))
+      absurd (scalars-numbers _ other _ _ s (sym (answered-number (after l) (shiftedRefusal (after l .setup .a) (after l .b) s) (afterShifted (after l) s))
       ∙ at-13 CS TakeShifted (after l) s e .1))
   number-13 RE m e =
-      absurd (response-other (after l) s (sym (answered-number (after l) (responseNumber (after l .setup) (after l .dealings) (after l .complaints) (after l .challenges) (after l .responses) s) (afterResponse (after l) s))
+      absurd (response-numbers _ other (after l) s (sym (answered-number (after l) (responseNumber (after l .b) (after l .setup) (after l .dealings) (after l .complaints) (after l .challenges) (after l .responses) s) (afterResponse (after l) s))
       ∙ at-13 RE TakeResponse (after l) s e .1))
   number-13 unknown m e = absurd (omega arith)
 

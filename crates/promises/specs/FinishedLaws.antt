@@ -23,7 +23,7 @@ use Rattle.records.specs.Bytes.{word, sender}
 use Rattle.records.specs.Tags.{RE}
 use Rattle.protocol.specs.Transcript.{Transcript, passes, nonce, shiftedNonce, responseAt}
 use Rattle.protocol.specs.Alike.{Alike}
-use Rattle.protocol.specs.AlikeLaws.{shifted-same}
+use Rattle.protocol.specs.AlikeLaws.{batch-same, shifted-same}
 use Rattle.protocol.specs.Signature.{signature}
 use Rattle.protocol.specs.ShiftLaws.{shift-verifies}
 use Rattle.run.specs.declared.Run.{Run}
@@ -34,7 +34,7 @@ use Rattle.run.specs.Runs.{transcriptOf, kept}
 use Rattle.run.specs.Steps.{after}
 use Rattle.promises.specs.Lists.{accepted, ofTag, sentBy, recordOf, hold, read, phi, shiftedPhi}
 use Rattle.promises.specs.ListLaws.{recordOf-all, recordOf-sender}
-use Rattle.promises.specs.InvariantLaws.{PassingRow, Live, live-bounds}
+use Rattle.promises.specs.InvariantLaws.{PassingRow, Live, begun-gone, live-bounds}
 use Rattle.promises.specs.Places.{Within}
 use Rattle.promises.specs.PlaceLaws.{within-same, cell-lt, cell-u, cell-k}
 use Rattle.promises.specs.MadeLaws.{made-live, made-sound, made-hold, made-alike}
@@ -53,7 +53,7 @@ pub equation-same : (w z : Transcript) → Alike w z → (u k : ℕ) → Within 
 equation-same w z h u k c = ap₂ product (shifted-same w z h u k) (ap₂ raise (h .key-same 0 (omega arith)) (h .challenge-same u k (c .u-pos) (c .u-max) (c .k-pos) (c .k-max)))
 
 -- the number of a row for u
-row-passes : (w : Transcript) (holders : ℕ) (s : List ℕ) → PassingRow w holders s → (u : ℕ) → 0 < u → u ≤ batch (w .n) (w .t)
+row-passes : (w : Transcript) (holders : ℕ) (s : List ℕ) → PassingRow w holders s → (u : ℕ) → 0 < u → u ≤ batch (w .m) (w .t)
     → raise generator (scalar (word s 4 (u - 1))) ≡ responseAt w u (party (sender s))
 unfolding passes
 row-passes w holders s h u p l =
@@ -92,7 +92,12 @@ module _ (l : List (List ℕ)) (e : after l .stage ≡ 5) where
 
   module _ (u k : ℕ) (place : Within (read (accepted l)) u k) where
     within : Within w u k
-    within = within-same (read (accepted l)) w (sym (alike .n-same)) (sym (alike .t-same)) (sym (alike .a-same)) u k place
+    within = within-same (read (accepted l)) w (sym (batch-same w (read (accepted l)) alike)) (sym (alike .a-same)) u k place
+
+    -- u is no more than the b that the run keeps
+    kept-batch : u ≤ r .b
+    unfolding transcriptOf transcript
+    kept-batch = omega (arith, within .u-max, begun-gone (live .stage .begun) (omega arith) .1)
 
     -- the rows of the list
     list-verifies : raise generator (phi (accepted l) u k) ≡ rightSide w u k
@@ -108,7 +113,7 @@ module _ (l : List (List ℕ)) (e : after l .stage ≡ 5) where
     unfolding transcriptOf transcript
     kept-passes j p c =
         let sent : sentBy j rows ≡ true = sym (live .responses .senders .mask-is j) ∙ c in
-        ap (raise generator) (live .responses .slots j (u - 1) p (omega (arith, within .u-pos, within .u-max)) sent)
+        ap (raise generator) (live .responses .slots j (u - 1) p (omega (arith, within .u-pos, kept-batch)) sent)
         ∙ row-passes w _ (recordOf j rows) (recordOf-all j _ rows (live .rows) sent) u (within .u-pos) (within .u-max)
         ∙ ap (λ (x : ℕ). responseAt w u (party x)) (recordOf-sender j rows sent)
 
@@ -139,7 +144,7 @@ module _ (l : List (List ℕ)) (e : after l .stage ≡ 5) where
     pub kept-is : kept r u k ≡ shiftedPhi (accepted l) u k
     unfolding kept transcriptOf transcript shiftedPhi shiftedPhiOf
     kept-is =
-        live .stage .done e .signatures (cell (r .setup .a) u k) (cell-lt (r .setup .a) (batch (r .setup .n) (r .setup .t)) u k (within .u-pos) (within .u-max) (within .k-pos) (within .k-max))
+        live .stage .done e .signatures (cell (r .setup .a) u k) (cell-lt (r .setup .a) (r .b) u k (within .u-pos) kept-batch (within .k-pos) (within .k-max))
         ∙ ap₂ (shiftedPhiOf (r .setup .n) (r .challenges .shift) (r .responses)) (cell-u (r .setup .a) u k (within .u-pos) (within .k-pos) (within .k-max)) (cell-k (r .setup .a) u k (within .k-pos) (within .k-max))
         ∙ ap₂ plus phi-same (alike .shift-same)
 

@@ -18,7 +18,7 @@ use Rattle.parameters.specs.Definitions.{mostParties, places, quorum, batch}
 use Rattle.records.specs.Bytes.{sender}
 use Rattle.records.specs.Tags.{maskAt}
 use Rattle.refusals.specs.Refusals.{dealingRefusal}
-use Rattle.parameters.specs.ParameterLaws.{Bounds, quorum-max, batch-max}
+use Rattle.parameters.specs.ParameterLaws.{Bounds, quorum-max}
 use Rattle.refusals.specs.RefusalLaws.{dealing-passed, complaint-passed, response-passed}
 use Rattle.dealing.specs.declared.Setup.{Setup}
 use Rattle.dealing.specs.declared.Dealings.{Dealings}
@@ -62,13 +62,13 @@ no-complaints setup dealers =
       founded = tt;
     }
 
-pub no-responses : (setup : Setup) → ResponsesOf setup noResponses []
+pub no-responses : (b : ℕ) (setup : Setup) → ResponsesOf b setup noResponses []
 unfolding noResponses
-no-responses setup =
+no-responses b setup =
     record {
       numbers-size = length-filled places (scalar 0);
       senders = senders-none (setup .n);
-      slots = slots-none scalar (scalar 0) (batch (setup .n) (setup .t)) (noResponses .numbers);
+      slots = slots-none scalar (scalar 0) b (noResponses .numbers);
     }
 
 -- ---- DE
@@ -162,23 +162,23 @@ complaints-more setup dealers c s l b new blames fits h =
 
 -- ---- RE
 
-pub response-new : (r : Run) (s : List ℕ) → responseNumber (r .setup) (r .dealings) (r .complaints) (r .challenges) (r .responses) s ≡ 0
+pub response-new : (r : Run) (s : List ℕ) → r .b ≡ batch (r .dealings .count) (r .setup .t) → responseNumber (r .b) (r .setup) (r .dealings) (r .complaints) (r .challenges) (r .responses) s ≡ 0
     → New (r .setup .n) (r .responses .responders) s × PassingRow (transcriptOf r) (r .complaints .holders) s
 unfolding responseNumber transcriptOf transcript
-response-new r s e =
+response-new r s fixed e =
     let c = or-next _ _ e in
     let p = response-passed _ _ s (c .0) in
     let p₁ = passed _ 12 _ (c .1) (omega arith) in
     let p₂ = passed _ 14 _ (p₁ .1) (omega arith) in
     let p₃ = passed _ 15 0 (p₂ .1) (omega arith) in
-    (record { sender-pos = p .sender-pos; sender-max = p .sender-max; unsent = not-yes _ (p₁ .0) }, record { held = p₂ .0; passing = all-at _ _ (p₃ .0) })
+    (record { sender-pos = p .sender-pos; sender-max = p .sender-max; unsent = not-yes _ (p₁ .0) }, record { held = p₂ .0; passing = λ x l. all-at _ _ (p₃ .0) x (omega (arith, fixed)) })
 
-pub responses-more : (setup : Setup) (p : Responses) (s : List ℕ) (l : List (List ℕ)) → Bounds (setup .n) (setup .t) (setup .a) → New (setup .n) (p .responders) s
-    → ResponsesOf setup p l → ResponsesOf setup (withResponse setup p s) (snoc l s)
+pub responses-more : (b : ℕ) (setup : Setup) (p : Responses) (s : List ℕ) (l : List (List ℕ)) → setup .n ≤ mostParties → b ≤ setup .n → New (setup .n) (p .responders) s
+    → ResponsesOf b setup p l → ResponsesOf b setup (withResponse b p s) (snoc l s)
 unfolding withResponse
-responses-more setup p s l b c h =
+responses-more b setup p s l n-max few c h =
     record {
       numbers-size = length-stored (p .numbers) _ _ _ ∙ h .numbers-size;
-      senders = senders-more s (b .n-max) c (h .senders);
-      slots = slots-more s (b .n-max) c (h .senders) scalar (scalar 0) _ (p .numbers) (omega (arith, batch-max b)) (h .numbers-size) (h .slots);
+      senders = senders-more s n-max c (h .senders);
+      slots = slots-more s n-max c (h .senders) scalar (scalar 0) b (p .numbers) (omega arith) (h .numbers-size) (h .slots);
     }

@@ -17,3 +17,4 @@ pub mod Shifts
 pub mod Complaints
 pub mod Widths
 pub mod Keys
+pub mod Batches

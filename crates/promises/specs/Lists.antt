@@ -1,7 +1,8 @@
--- What a list of records has, read from the bytes of its accepted records alone (document 01, "The run"; the shift is of document 02, request 2.1).
+-- What a list of records has, read from the bytes of its accepted records alone (document 01, "The run"; the shift is of document 02,
+-- request 2.1, SX and GO of request 2.5).
 use Prim.Native.Nat.{ℕ, _+_, _-_}
 use mathlib.Core.Bool.{Bool, false, not, _&&_, _||_}
-use mathlib.Core.List.{List, [], _∷_}
+use mathlib.Core.List.{List, [], _∷_, _++_}
 use lib.ListN.{length, getD}
 use lib.Dec.{eqb, ltb}
 use Rattle.lists.specs.Tests.{pick}
@@ -11,7 +12,7 @@ use Rattle.field.specs.Definitions.{scalar, element, plus}
 use Rattle.interpolation.specs.Definitions.{party, slot, scalarAt}
 use Rattle.parameters.specs.Definitions.{quorum}
 use Rattle.records.specs.Bytes.{byteAt, word, sender}
-use Rattle.records.specs.Tags.{Tag, SU, DE, VE, CH, CS, RE, code, tagOf, maskAt}
+use Rattle.records.specs.Tags.{Tag, SU, SX, DE, GO, VE, CH, CS, RE, code, tagOf, maskAt}
 use Rattle.run.specs.declared.Run.{Run}
 use Rattle.protocol.specs.Transcript.{Transcript}
 use Rattle.arrays.specs.Arrays.{cell}
@@ -62,9 +63,13 @@ shiftBy (s ∷ m) = scalar (word s 4 0)
 
 -- of a list of accepted records:
 module _ (l : List (List ℕ)) where
-  -- n of the accepted SU
+  -- the accepted SU or SX, of which there is at most one
+  abbrev pub setupRecord : List ℕ
+  setupRecord = first (ofTag SU l ++ ofTag SX l)
+
+  -- its n
   abbrev pub parties : ℕ
-  parties = byteAt (first (ofTag SU l)) 2
+  parties = byteAt setupRecord 2
 
   -- the accepted dealers
   unfoldable pub dealer : ℕ → Bool
@@ -86,17 +91,19 @@ module _ (l : List (List ℕ)) where
   unfoldable pub qualified : ℕ → Bool
   qualified i = dealer i && not (bad i)
 
-  -- the setup of the accepted SU, QUAL, the commitments of the accepted DE, the challenges of the accepted CH or CS, and the shift
+  -- the setup of the accepted SU or SX, m, which is the number of the accepted DE, QUAL, the commitments of the accepted DE, the challenges of the
+  -- accepted CH or CS, and the shift
   unfoldable pub read : Transcript
   read =
       record {
         n = parties;
-        t = byteAt (first (ofTag SU l)) 3;
-        a = byteAt (first (ofTag SU l)) 4;
-        key = λ j. element (word (first (ofTag SU l)) 6 j);
+        t = byteAt setupRecord 3;
+        a = byteAt setupRecord 4;
+        m = length (ofTag DE l);
+        key = λ j. element (word setupRecord 6 j);
         qual = qualified;
         commitment = λ i v. element (word (recordOf i (ofTag DE l)) 4 v);
-        challenge = λ u k. challengeBy (ofTag CH l) (ofTag CS l) (cell (byteAt (first (ofTag SU l)) 4) u k);
+        challenge = λ u k. challengeBy (ofTag CH l) (ofTag CS l) (cell (byteAt setupRecord 4) u k);
         shift = shiftBy (ofTag CS l);
       }
 
@@ -109,13 +116,13 @@ module _ (l : List (List ℕ)) where
   unfoldable pub shiftedPhi : ℕ → ℕ → Scalar
   shiftedPhi u k = plus (phi u k) (read .shift)
 
-  -- no SU yet
+  -- no SU and no SX yet
   unfoldable pub unset : Bool
-  unset = eqb (length (ofTag SU l)) 0
+  unset = eqb (length (ofTag SU l) + length (ofTag SX l)) 0
 
-  -- fewer than n-t DE
+  -- with no SX, fewer than n-t DE; with an SX, no GO yet
   unfoldable pub dealing : Bool
-  dealing = ltb (length (ofTag DE l)) (read .n - read .t)
+  dealing = pick (eqb (length (ofTag SX l)) 0) (ltb (length (ofTag DE l)) (read .n - read .t)) (eqb (length (ofTag GO l)) 0)
 
   -- fewer than n-t VE
   unfoldable pub complaining : Bool

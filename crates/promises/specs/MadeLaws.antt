@@ -1,31 +1,35 @@
 -- A run that a list of records makes keeps what the list has: its public values and its sets. Assumes nothing.
 use mathlib.Core.Path.{_≡_, refl, sym, ap, ap₂, _∙_}
 use mathlib.Core.Bool.{Bool, true, false, not, _&&_, and-false}
-use mathlib.Core.List.{List}
-use Prim.Native.Nat.{ℕ, _-_, _≤_, _<_}
+use mathlib.Core.List.{List, []}
+use Prim.Native.Nat.{ℕ, _*_, _-_, _≤_, _<_}
 use native.Mathlib.Omega.{arith}
-use lib.ListN.{length}
+use native.Mathlib.Decide.{decLt}
+use lib.ListN.{length, getD}
 use Rattle.lists.specs.TestLaws.{and-left, pick-same}
 use Rattle.lists.specs.Members.{Distinct}
 use Rattle.sets.specs.Masks.{has, count}
 use Rattle.sets.specs.MemberLaws.{same-members}
-use Rattle.parameters.specs.Definitions.{batch}
-use Rattle.records.specs.Bytes.{sender}
-use Rattle.records.specs.Tags.{SU, DE, VE, CH, CS, maskAt}
+use Rattle.lists.specs.StoreLaws.{getD-filled}
+use Rattle.field.specs.Definitions.{scalar}
+use Rattle.parameters.specs.Definitions.{cells, batch}
+use Rattle.records.specs.Bytes.{byteAt, wideAt, numberAt, word, sender}
+use Rattle.records.specs.Tags.{DE, VE, CH, CS, SX, maskAt}
 use Rattle.protocol.specs.Alike.{Alike}
 use Rattle.protocol.specs.Signature.{Sound}
 use Rattle.dealing.specs.declared.Setup.{Setup}
 use Rattle.arrays.specs.Arrays.{cell}
+use Rattle.challenge.specs.Definitions.{noChallenges}
 use Rattle.verification.specs.Definitions.{transcript}
 use Rattle.run.specs.Runs.{wellFormed, stageOf, transcriptOf}
 use Rattle.dealing.specs.Definitions.{setupOf, keyIn}
 use Rattle.run.specs.Steps.{after}
-use Rattle.promises.specs.SenderLaws.{has-pos}
-use Rattle.promises.specs.Lists.{accepted, ofTag, first, some, parties, dealer, hold, bad, qualified, read, maskFrom, challengeBy}
+use Rattle.promises.specs.SenderLaws.{has-pos, senders-max}
+use Rattle.promises.specs.Lists.{accepted, ofTag, first, some, setupRecord, parties, dealer, hold, bad, qualified, read, maskFrom, challengeBy}
 use Rattle.promises.specs.ListLaws.{some-all}
 use Rattle.promises.specs.PlaceLaws.{cell-lt}
 use Rattle.complaint.specs.Definitions.{blamedBy, maskBy}
-use Rattle.promises.specs.InvariantLaws.{Live, key-is, key-element, commitment-element, live-bounds, live-well-formed, stage-of}
+use Rattle.promises.specs.InvariantLaws.{Live, begun-gone, begun-exact, key-is, key-element, commitment-element, live-bounds, live-well-formed, stage-of}
 use Rattle.promises.specs.InvariantStepLaws.{invariant-after}
 
 -- what only members have
@@ -54,7 +58,7 @@ module _ (l : List (List ℕ)) (p : 0 < after l .stage) where
         commitments = λ i v p k e. commitment-element (after l .setup) (after l .dealings) _ (made-live .dealings) i v p (and-left (has (after l .dealings .dealers) i) _ e);
       }
 
-  setup-same : {A : Type 0} (f : Setup → A) → f (after l .setup) ≡ f (setupOf (first (ofTag SU (accepted l))))
+  setup-same : {A : Type 0} (f : Setup → A) → f (after l .setup) ≡ f (setupOf (setupRecord (accepted l)))
   setup-same f = ap f (made-live .setup .setup-is)
 
   -- ---- the sets
@@ -86,6 +90,16 @@ module _ (l : List (List ℕ)) (p : 0 < after l .stage) where
 
   -- ---- the public values
 
+  -- the challenges, before they come too
+  made-challenge : (x : ℕ) → x < after l .setup .a * batch (after l .dealings .count) (after l .setup .t)
+      → getD (after l .challenges .numbers) x (scalar 0) ≡ challengeBy (ofTag CH (accepted l)) (ofTag CS (accepted l)) x
+  unfolding challengeBy first word numberAt wideAt byteAt noChallenges
+  made-challenge x m = go (decLt (after l .stage) 4)
+    where
+      go : Dec (after l .stage < 4) → getD (after l .challenges .numbers) x (scalar 0) ≡ challengeBy (ofTag CH (accepted l)) (ofTag CS (accepted l)) x
+      go (yes e) = let none = made-live .stage .early e in rw (none .0, none .1, none .3) (getD-filled cells (scalar 0) x)
+      go (no e) = made-live .challenges .challenge-is x (rw (begun-gone (made-live .stage .begun) (omega arith) .1) m)
+
   pub made-alike : Alike (transcriptOf (after l)) (read (accepted l))
   unfolding transcriptOf transcript keyIn read setupOf
   made-alike =
@@ -93,12 +107,13 @@ module _ (l : List (List ℕ)) (p : 0 < after l .stage) where
         n-same = setup-same (λ z. z .n);
         t-same = setup-same (λ z. z .t);
         a-same = setup-same (λ z. z .a);
+        m-same = made-live .dealings .senders .number-is;
         key-same = key-is (after l .setup) _ (made-live .setup);
         qual-same = λ i p k. made-qual i;
         commitment-same = λ i v p k e m.
             made-live .dealings .slots i v p m (sym (made-live .dealings .senders .mask-is i) ∙ and-left (has (after l .dealings .dealers) i) _ e);
         challenge-same = λ u k p m c d.
-            made-live .challenges .challenge-is (cell (after l .setup .a) u k) (cell-lt (after l .setup .a) (batch (after l .setup .n) (after l .setup .t)) u k p m c d)
+            made-challenge (cell (after l .setup .a) u k) (cell-lt (after l .setup .a) (batch (after l .dealings .count) (after l .setup .t)) u k p m c d)
             ∙ ap (λ (x : ℕ). challengeBy (ofTag CH (accepted l)) (ofTag CS (accepted l)) (cell x u k)) (setup-same (λ z. z .a));
         shift-same = made-live .challenges .shift-is;
       }
@@ -109,9 +124,21 @@ module _ (l : List (List ℕ)) (p : 0 < after l .stage) where
   unfolding transcriptOf transcript
   read-count = sym (ap₂ (λ (n t : ℕ). n - t) (made-alike .n-same) (made-alike .t-same))
 
-  -- n-t DE from different dealers
-  pub made-dealings : 1 < after l .stage → length (ofTag DE (accepted l)) ≡ read (accepted l) .n - read (accepted l) .t
-  made-dealings m = sym (made-live .dealings .senders .number-is) ∙ made-live .stage .counts .dealt m ∙ sym read-count
+  -- with an SU n-t DE, with an SX as many or more, from different dealers
+  pub made-dealings : 1 < after l .stage → ofTag SX (accepted l) ≡ [] → length (ofTag DE (accepted l)) ≡ read (accepted l) .n - read (accepted l) .t
+  made-dealings m e = sym (made-live .dealings .senders .number-is) ∙ begun-exact (made-live .stage .begun) m e ∙ sym read-count
+
+  pub made-dealings-least : 1 < after l .stage → read (accepted l) .n - read (accepted l) .t ≤ length (ofTag DE (accepted l))
+  made-dealings-least m = omega (arith, read-count, made-live .dealings .senders .number-is, begun-gone (made-live .stage .begun) m .0)
+
+  pub made-dealings-most : length (ofTag DE (accepted l)) ≤ read (accepted l) .n
+  unfolding transcriptOf transcript
+  made-dealings-most = omega (arith, made-alike .n-same, made-live .dealings .senders .number-is, senders-max (made-live .dealings .senders))
+
+  -- b by the run is that by the list, past stage 1
+  pub made-batch : 1 < after l .stage → after l .b ≡ batch (read (accepted l) .m) (read (accepted l) .t)
+  unfolding transcriptOf transcript
+  made-batch m = begun-gone (made-live .stage .begun) m .1 ∙ ap₂ batch (made-alike .m-same) (made-alike .t-same)
 
   pub made-dealers-differ : Distinct sender (ofTag DE (accepted l))
   made-dealers-differ = made-live .dealings .senders .differ

@@ -27,7 +27,7 @@ use Rattle.closing.specs.Closing.{holdWord, qualWord, badWord, endWord, sigLine
 use Rattle.log.specs.Report.{longWord, longest, refusalLines, reportOf}
 use Rattle.promises.specs.Lists.{accepted, hold, bad, qualified, read, stageBy}
 use Rattle.promises.specs.PlaceLaws.{place-at}
-use Rattle.promises.specs.MadeLaws.{made-live, made-alike}
+use Rattle.promises.specs.MadeLaws.{made-live, made-alike, made-batch}
 use Rattle.promises.specs.Stages.{stage-by}
 use Rattle.promises.specs.InvariantLaws.{live-bounds}
 use Rattle.promises.specs.FinishedLaws.{kept-is}
@@ -61,7 +61,7 @@ module _ (l : List (List ℕ)) where
   line-is word mask set fixed none = ap (λ (m : List ℕ). word ++ (setText m ++ (feed ∷ []))) (members-are mask set fixed none)
 
   -- at stage 5, R(u,k) and φ(u,k) of the list
-  signed-lines : after l .stage ≡ 5 → (m : ℕ) → m ≤ read (accepted l) .a * batch (read (accepted l) .n) (read (accepted l) .t) → signatureLines (after l) m ≡ signedLines (accepted l) m
+  signed-lines : after l .stage ≡ 5 → (m : ℕ) → m ≤ read (accepted l) .a * batch (read (accepted l) .m) (read (accepted l) .t) → signatureLines (after l) m ≡ signedLines (accepted l) m
   unfolding signatureLines signatureLine signedLines transcriptOf transcript
   signed-lines e zero b = refl
   signed-lines e (suc x) b =
@@ -75,19 +75,19 @@ module _ (l : List (List ℕ)) where
       (ap (λ (a : ℕ). sigLine (x / a + 1) (x % a + 1) (shiftedNonce (transcriptOf (after l)) (x / a + 1) (x % a + 1)) (kept (after l) (x / a + 1) (x % a + 1))) (h .a-same)
       ∙ ap₂ (sigLine u k) (shifted-same (transcriptOf (after l)) (read (accepted l)) h u k) (kept-is l e u k place))
 
-  signatures-are : pick (eqb (stageOf (after l)) 5) (signatureLines (after l) (after l .setup .a * batch (after l .setup .n) (after l .setup .t))) []
-      ≡ pick (eqb (stageBy (accepted l)) 5) (signedLines (accepted l) (read (accepted l) .a * batch (read (accepted l) .n) (read (accepted l) .t))) []
+  signatures-are : pick (eqb (stageOf (after l)) 5) (signatureLines (after l) (after l .setup .a * after l .b)) []
+      ≡ pick (eqb (stageBy (accepted l)) 5) (signedLines (accepted l) (read (accepted l) .a * batch (read (accepted l) .m) (read (accepted l) .t))) []
   unfolding transcriptOf transcript
   signatures-are =
-      ap (λ (g : ℕ). pick (eqb g 5) (signatureLines (after l) (after l .setup .a * batch (after l .setup .n) (after l .setup .t))) []) (answers l .stage)
+      ap (λ (g : ℕ). pick (eqb g 5) (signatureLines (after l) (after l .setup .a * after l .b)) []) (answers l .stage)
       ∙ go (eqb (stageBy (accepted l)) 5) refl
     where
-      go : (b : Bool) → eqb (stageBy (accepted l)) 5 ≡ b → pick b (signatureLines (after l) (after l .setup .a * batch (after l .setup .n) (after l .setup .t))) []
-          ≡ pick b (signedLines (accepted l) (read (accepted l) .a * batch (read (accepted l) .n) (read (accepted l) .t))) []
+      go : (b : Bool) → eqb (stageBy (accepted l)) 5 ≡ b → pick b (signatureLines (after l) (after l .setup .a * after l .b)) []
+          ≡ pick b (signedLines (accepted l) (read (accepted l) .a * batch (read (accepted l) .m) (read (accepted l) .t))) []
       go true d =
           let e : after l .stage ≡ 5 = stage-by l ∙ eqb-true (stageBy (accepted l)) 5 d in
           let h = made-alike l (omega arith) in
-          ap (signatureLines (after l)) (ap₂ _*_ (h .a-same) (ap₂ batch (h .n-same) (h .t-same)))
+          ap (signatureLines (after l)) (ap₂ _*_ (h .a-same) (made-batch l (omega arith) (omega arith)))
           ∙ signed-lines e _ (omega arith)
       go false d = refl
 

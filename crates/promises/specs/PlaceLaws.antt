@@ -1,5 +1,5 @@
 -- The laws of places (u,k) and of their cells, u outer. Assumes nothing.
-use mathlib.Core.Path.{_≡_, ap, ap₂, _∙_}
+use mathlib.Core.Path.{_≡_, ap, _∙_}
 use mathlib.Core.Bool.{true, and-eq-true-iff}
 use Prim.Native.Nat.{ℕ, zero, suc, _+_, _*_, _-_, _/_, _%_, _≤_, _<_}
 use native.Mathlib.Omega.{arith}
@@ -10,8 +10,8 @@ use Rattle.protocol.specs.Transcript.{Transcript}
 use Rattle.arrays.specs.Arrays.{cell}
 use Rattle.promises.specs.Places.{Within, isPlace}
 
-pub within-same : (w z : Transcript) → w .n ≡ z .n → w .t ≡ z .t → w .a ≡ z .a → (u k : ℕ) → Within w u k → Within z u k
-within-same w z n t a u k h = record { u-pos = h .u-pos; u-max = omega (arith, ap₂ batch n t); k-pos = h .k-pos; k-max = omega arith }
+pub within-same : (w z : Transcript) → batch (w .m) (w .t) ≡ batch (z .m) (z .t) → w .a ≡ z .a → (u k : ℕ) → Within w u k → Within z u k
+within-same w z b a u k h = record { u-pos = h .u-pos; u-max = omega arith; k-pos = h .k-pos; k-max = omega arith }
 
 pub place-of : (w : Transcript) (u k : ℕ) → isPlace w u k ≡ true → Within w u k
 unfolding isPlace
@@ -22,9 +22,9 @@ place-of w u k e =
     record { u-pos = leb-true _ _ (x .0); u-max = leb-true _ _ (x .1); k-pos = leb-true _ _ (y .0); k-max = leb-true _ _ (y .1) }
 
 -- the place whose cell is x, of the a × b
-pub place-at : (w : Transcript) (x : ℕ) → 0 < w .a → x < w .a * batch (w .n) (w .t) → Within w (x / w .a + 1) (x % w .a + 1)
+pub place-at : (w : Transcript) (x : ℕ) → 0 < w .a → x < w .a * batch (w .m) (w .t) → Within w (x / w .a + 1) (x % w .a + 1)
 place-at w x p l =
-    let below : x / w .a < batch (w .n) (w .t) = div-lt-iff-lt-mul {y = batch (w .n) (w .t)} p .1 (omega arith) in
+    let below : x / w .a < batch (w .m) (w .t) = div-lt-iff-lt-mul {y = batch (w .m) (w .t)} p .1 (omega arith) in
     record { u-pos = omega arith; u-max = omega arith; k-pos = omega arith; k-max = omega (arith, mod-lt x p) }
 
 -- the cell of (u,k) is among the a × b

@@ -12,7 +12,7 @@ use Rattle.field.specs.Definitions.{plus}
 use Rattle.field.specs.ScalarLaws.{plus-zero}
 use Rattle.interpolation.specs.PointLaws.{scalarAt-range}
 use Rattle.records.specs.Bytes.{word}
-use Rattle.records.specs.Tags.{SU, DE, VE, CH, CS, RE, tagOf}
+use Rattle.records.specs.Tags.{SU, SX, DE, VE, CH, CS, RE, tagOf}
 use Rattle.protocol.specs.Transcript.{nonce, shiftedNonce, dealerFactor, combinedAt, challengeAt, responseAt, passes}
 use Rattle.protocol.specs.ShiftLaws.{shift-none}
 use Rattle.protocol.specs.Alike.{Alike}
@@ -44,20 +44,21 @@ pub unshifted : (l : List (List ℕ)) → ofTag CS l ≡ [] → (u k : ℕ) → 
 unfolding read shiftBy shiftedPhi phi
 unshifted l e u k = (shift-none (read l) u k (ap shiftBy e), ap (λ m. plus (phi l u k) (shiftBy m)) e ∙ plus-zero (phi l u k) (scalarAt-range _ _ _ _))
 
--- Two lists of accepted records with the same SU, DE and VE, one with the CH s and the other with the CS z, whose shift is 0 and whose challenges are
+-- Two lists of accepted records with the same SU or SX, DE and VE, one with the CH s and the other with the CS z, whose shift is 0 and whose challenges are
 -- those of s.
-pub alike-unshifted : (l m : List (List ℕ)) → ofTag SU l ≡ ofTag SU m → ofTag DE l ≡ ofTag DE m → ofTag VE l ≡ ofTag VE m
+pub alike-unshifted : (l m : List (List ℕ)) → ofTag SU l ≡ ofTag SU m → ofTag SX l ≡ ofTag SX m → ofTag DE l ≡ ofTag DE m → ofTag VE l ≡ ofTag VE m
     → (s z : List ℕ) → ofTag CH l ≡ s ∷ [] → ofTag CS l ≡ [] → ofTag CS m ≡ z ∷ [] → word z 4 0 ≡ 0 → ((x : ℕ) → word z 8 x ≡ word s 4 x) → Alike (read l) (read m)
 unfolding read qualified dealer bad challengeBy shiftBy first
-alike-unshifted l m su de ve s z ch none cs zero-shift same =
+alike-unshifted l m su sx de ve s z ch none cs zero-shift same =
     record {
-      n-same = rw su;
-      t-same = rw su;
-      a-same = rw su;
-      key-same = λ j p. rw su;
-      qual-same = λ i p q. rw (su, de, ve);
+      n-same = rw (su, sx);
+      t-same = rw (su, sx);
+      a-same = rw (su, sx);
+      m-same = rw de;
+      key-same = λ j p. rw (su, sx);
+      qual-same = λ i p q. rw (su, sx, de, ve);
       commitment-same = λ i v p q e c. rw de;
-      challenge-same = λ u k p q c d. rw (su, ch, none, cs, same);
+      challenge-same = λ u k p q c d. rw (su, sx, ch, none, cs, same);
       shift-same = rw (none, cs, zero-shift);
     }
 
@@ -65,7 +66,7 @@ alike-unshifted l m su de ve s z ch none cs zero-shift same =
 
 row-number : (r : Run) (shift : Scalar) (s : List ℕ) →
     let z = reshifted shift r in
-    responseNumber (z .setup) (z .dealings) (z .complaints) (z .challenges) (z .responses) s ≡ responseNumber (r .setup) (r .dealings) (r .complaints) (r .challenges) (r .responses) s
+    responseNumber (z .b) (z .setup) (z .dealings) (z .complaints) (z .challenges) (z .responses) s ≡ responseNumber (r .b) (r .setup) (r .dealings) (r .complaints) (r .challenges) (r .responses) s
 unfolding reshifted responseNumber transcript passes responseAt combinedAt dealerFactor challengeAt
 row-number r shift s = refl
 
@@ -82,9 +83,9 @@ row-any-shift r shift s e =
 
     go : (b : Bool) → handled (pick b TakeResponse (Refuse 11)) z s .number ≡ handled (pick b TakeResponse (Refuse 11)) r s .number
     go true =
-        answered-number z (responseNumber (z .setup) (z .dealings) (z .complaints) (z .challenges) (z .responses) s) (afterResponse z s)
+        answered-number z (responseNumber (z .b) (z .setup) (z .dealings) (z .complaints) (z .challenges) (z .responses) s) (afterResponse z s)
         ∙ row-number r shift s
-        ∙ sym (answered-number r (responseNumber (r .setup) (r .dealings) (r .complaints) (r .challenges) (r .responses) s) (afterResponse r s))
+        ∙ sym (answered-number r (responseNumber (r .b) (r .setup) (r .dealings) (r .complaints) (r .challenges) (r .responses) s) (afterResponse r s))
     go false = refl
 
 -- and from a run with another shift the writer refuses and makes the same

@@ -1,19 +1,23 @@
 -- The stage of the run that a list makes is the one that its accepted records bring. Assumes nothing.
 use mathlib.Core.Path.{_≡_, refl, ap, ap₂}
+use mathlib.Core.Logic.{inl, inr}
 use mathlib.Core.Bool.{true, false}
 use mathlib.Core.List.{List}
 use Prim.Native.Nat.{ℕ, zero, suc, _+_, _-_, _<_}
 use native.Mathlib.Omega.{arith}
 use lib.ListN.{length}
+use lib.Dec.{eqb, ltb}
 use borrow.Author.Tests.{lt-ltb, le-ltb, eq-eqb, ne-eqb}
 use Rattle.parameters.specs.Definitions.{quorum}
-use Rattle.records.specs.Tags.{Tag, SU, DE, VE, CH, CS, RE}
+use Rattle.records.specs.Tags.{Tag, SU, SX, DE, GO, VE, CH, CS, RE}
 use Rattle.verification.specs.Definitions.{transcript}
 use Rattle.run.specs.Runs.{transcriptOf}
 use Rattle.run.specs.Steps.{after}
 use Rattle.promises.specs.Lists.{accepted, ofTag, read, unset, dealing, complaining, stopped, unchallenged, responding, stageBy}
+use Rattle.lists.specs.Tests.{pick}
+use Rattle.promises.specs.InvariantLaws.{Begun, begun-one}
 use Rattle.promises.specs.InvariantStepLaws.{invariant-after}
-use Rattle.promises.specs.MadeLaws.{made-live, made-alike, made-dealings, made-complaints, made-few-bad, made-many-bad, read-count}
+use Rattle.promises.specs.MadeLaws.{made-live, made-alike, made-dealings-least, made-complaints, made-few-bad, made-many-bad, read-count}
 
 module _ (l : List (List ℕ)) where
   abbrev n : ℕ
@@ -32,15 +36,26 @@ module _ (l : List (List ℕ)) where
   module _ (p : 0 < after l .stage) where
     setup-seen : unset (accepted l) ≡ false
     unfolding unset
-    setup-seen = ne-eqb (number SU) 0 (λ e. omega (arith, made-live l p .stage .one-setup))
+    setup-seen = ne-eqb (number SU + number SX) 0 (λ e. omega (arith, begun-one (made-live l p .stage .begun)))
 
+    -- with an SU too few DE, with an SX no GO
     few-dealings : after l .stage ≡ 1 → dealing (accepted l) ≡ true
     unfolding dealing
-    few-dealings e = lt-ltb (number DE) (n - t) (omega (arith, made-live l p .dealings .senders .number-is, made-live l p .stage .counts .dealing e, read-count l p))
+    few-dealings e = go (made-live l p .stage .begun)
+      where
+        go : Begun (after l .stage) (after l .b) (after l .setup) (after l .dealings .count) (ofTag SU (accepted l)) (ofTag SX (accepted l)) (ofTag GO (accepted l))
+            → pick (eqb (number SX) 0) (ltb (number DE) (n - t)) (eqb (number GO) 0) ≡ true
+        go (inl h) = rw (h .none) (lt-ltb (number DE) (n - t) (omega (arith, made-live l p .dealings .senders .number-is, h .dealing e, read-count l p)))
+        go (inr h) = rw (h .one, h .waiting e .0) refl
 
     all-dealings : 1 < after l .stage → dealing (accepted l) ≡ false
     unfolding dealing
-    all-dealings m = le-ltb (number DE) (n - t) (omega (arith, made-dealings l p m))
+    all-dealings m = go (made-live l p .stage .begun)
+      where
+        go : Begun (after l .stage) (after l .b) (after l .setup) (after l .dealings .count) (ofTag SU (accepted l)) (ofTag SX (accepted l)) (ofTag GO (accepted l))
+            → pick (eqb (number SX) 0) (ltb (number DE) (n - t)) (eqb (number GO) 0) ≡ false
+        go (inl h) = rw (h .none) (le-ltb (number DE) (n - t) (omega (arith, made-dealings-least l p m)))
+        go (inr h) = rw (h .one, h .gone m .0) refl
 
     few-complaints : after l .stage ≡ 2 → complaining (accepted l) ≡ true
     unfolding complaining

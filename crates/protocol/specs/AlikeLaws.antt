@@ -1,4 +1,4 @@
--- Transcripts that are alike have the same nonce commitments, shifted or not. Assumes nothing.
+-- Transcripts that are alike have as many signatures, and the same nonce commitments, shifted or not. Assumes nothing.
 use mathlib.Core.Path.{_≡_, refl, ap, ap₂, _∙_}
 use mathlib.Core.Bool.{true}
 use Prim.Native.Nat.{ℕ, _≤_, _<_}
@@ -7,19 +7,20 @@ use Rattle.field.specs.declared.Element.{Element}
 use Rattle.field.specs.Definitions.{powered}
 use Rattle.interpolation.specs.Definitions.{slot, committedPoint, elementAt}
 use Rattle.interpolation.specs.WeightLaws.{elementAt-cong}
-use Rattle.parameters.specs.Definitions.{quorum}
+use Rattle.parameters.specs.Definitions.{quorum, batch}
 use Rattle.protocol.specs.Transcript.{Transcript, dealingAt, exponent, productOver, combinedAt, nonce, shiftedElement, shiftedNonce, dealerFactor}
 use Rattle.protocol.specs.ProductLaws.{productOver-cong}
 use Rattle.protocol.specs.Alike.{Alike}
 
 -- what dealers outside QUAL committed to is free
 pub alike-outside : (w : Transcript) (other : ℕ → ℕ → Element) → ((i v : ℕ) → w .qual i ≡ true → w .commitment i v ≡ other i v)
-    → Alike w (record { n = w .n; t = w .t; a = w .a; key = w .key; qual = w .qual; commitment = other; challenge = w .challenge; shift = w .shift })
+    → Alike w (record { n = w .n; t = w .t; a = w .a; m = w .m; key = w .key; qual = w .qual; commitment = other; challenge = w .challenge; shift = w .shift })
 alike-outside w other h =
     record {
       n-same = refl;
       t-same = refl;
       a-same = refl;
+      m-same = refl;
       key-same = λ j l. refl;
       qual-same = λ i p l. refl;
       commitment-same = λ i v p l e c. h i v e;
@@ -28,6 +29,10 @@ alike-outside w other h =
     }
 
 module _ (w z : Transcript) (h : Alike w z) where
+  -- b is the same
+  pub batch-same : batch (w .m) (w .t) ≡ batch (z .m) (z .t)
+  batch-same = ap₂ batch (h .m-same) (h .t-same)
+
   dealing-same : (i : ℕ) (x : Scalar) → 0 < i → i ≤ w .n → w .qual i ≡ true → dealingAt (w .t) (w .a) (w .commitment i) x ≡ dealingAt (z .t) (z .a) (z .commitment i) x
   unfolding dealingAt
   dealing-same i x p l e =

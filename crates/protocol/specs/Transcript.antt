@@ -1,4 +1,4 @@
--- What the public values of a committee come to (document 01, "Points and weights"; the shift is of document 02, request 2.1).
+-- What the public values of a committee come to (document 01, "Points and weights"; the shift is of document 02, request 2.1, the number m of dealings of request 2.5).
 use Prim.Native.Nat.{ℕ, _+_, _-_, _^_}
 use mathlib.Core.Bool.{Bool}
 use Rattle.algebra.specs.Fold.{fold}
@@ -9,11 +9,12 @@ use Rattle.field.specs.Definitions.{scalar, identity, generator, sameElement, p
 use Rattle.interpolation.specs.Definitions.{party, slot, committedPoint, scalarAt, elementAt}
 use Rattle.parameters.specs.Definitions.{quorum}
 
--- key 0 is S and key j is S_j; commitment i v is V(v + 1 - a) of dealer i; challenge u k is e(u,k); shift is δ
+-- m is the number of dealings; key 0 is S and key j is S_j; commitment i v is V(v + 1 - a) of dealer i; challenge u k is e(u,k); shift is δ
 pub record Transcript : Type 0 where
   pub n : ℕ
   pub t : ℕ
   pub a : ℕ
+  pub m : ℕ
   pub key : ℕ → Element
   pub qual : ℕ → Bool
   pub commitment : ℕ → ℕ → Element

@@ -7,7 +7,7 @@ use lib.Dec.{leb}
 use borrow.Author.Tests.{leb-true, leb-false}
 use Rattle.lists.specs.TestLaws.{pick-case}
 use Rattle.parameters.specs.Definitions.{mostParties}
-use Rattle.records.specs.Tags.{Tag, SU, DE, VE, CH, CS, RE, unknown, code, decoded, mostNarrow, maskWidth}
+use Rattle.records.specs.Tags.{Tag, SU, SX, DE, GO, VE, CH, CS, RE, unknown, code, decoded, mostNarrow, maskWidth}
 
 -- ---- tags
 
@@ -15,7 +15,9 @@ use Rattle.records.specs.Tags.{Tag, SU, DE, VE, CH, CS, RE, unknown, cod
 pub decoded-code : (g : Tag) → decoded (code g) ≡ g
 unfolding decoded
 decoded-code SU = refl
+decoded-code SX = refl
 decoded-code DE = refl
+decoded-code GO = refl
 decoded-code VE = refl
 decoded-code CH = refl
 decoded-code CS = refl

@@ -3,10 +3,14 @@ ghost use mathlib.Core.Path.{_≡_};
 ghost use Rattle.records.specs.Bytes.{byteAt, numberAt, word};
 ghost use Rattle.records.specs.Tags.{code, tagOf, setupLength, dealingLength, complaintLength, challengesLength, shiftedLength, responseLength, sharesFrom, maskWidth, maskAt};
 
-// The six tags, two letters each.
+// The eight tags, two letters each.
 const SU: u16 = b'S' as u16 * 256 + b'U' as u16;
 
+const SX: u16 = b'S' as u16 * 256 + b'X' as u16;
+
 const DE: u16 = b'D' as u16 * 256 + b'E' as u16;
+
+const GO: u16 = b'G' as u16 * 256 + b'O' as u16;
 
 const VE: u16 = b'V' as u16 * 256 + b'E' as u16;
 
@@ -18,6 +22,9 @@ const RE: u16 = b'R' as u16 * 256 + b'E' as u16;
 
 // The most parties whose mask has four bytes.
 const MOST_NARROW: u8 = 32;
+
+// The bytes of a GO: its tag alone.
+pub const GO_LENGTH: usize = 2;
 
 // The byte at a place, and 0 past the end.
 pub fn byte(s: &[u8], at: usize) -> u8
@@ -45,7 +52,7 @@ pub fn word(s: &[u8], at: u16, i: u16) -> u32
     number(s, at as u32 + 4 * i as u32)
 }
 
-// The tag (mark, in document 01) of a record: 1 SU, 2 DE, 3 VE, 4 CH, 5 RE, 6 CS, and 0 for none of these.
+// The tag (mark, in document 01) of a record: 1 SU, 2 DE, 3 VE, 4 CH, 5 RE, 6 CS, 7 SX, 8 GO, and 0 for none of these.
 pub fn tag(s: &[u8]) -> u8
     ensures { λ r. ⌜ r ≡ code (tagOf (now (s .entry))) ⌝ }
 {
@@ -60,6 +67,8 @@ pub fn tag(s: &[u8]) -> u8
         CH => 4,
         RE => 5,
         CS => 6,
+        SX => 7,
+        GO => 8,
         _ => 0,
     }
 }
@@ -89,22 +98,22 @@ pub fn complaint_length(n: u8) -> usize
     4 + mask_width(n) as usize
 }
 
-pub fn challenges_length(n: u8, t: u8, a: u8) -> usize
-    ensures { λ r. ⌜ r ≡ challengesLength n t a ⌝ }
+pub fn challenges_length(a: u8, b: u8) -> usize
+    ensures { λ r. ⌜ r ≡ challengesLength a b ⌝ }
 {
-    4 + 4 * (a as usize * parameters::batch(n, t) as usize)
+    4 + 4 * (a as usize * b as usize)
 }
 
-pub fn shifted_length(n: u8, t: u8, a: u8) -> usize
-    ensures { λ r. ⌜ r ≡ shiftedLength n t a ⌝ }
+pub fn shifted_length(a: u8, b: u8) -> usize
+    ensures { λ r. ⌜ r ≡ shiftedLength a b ⌝ }
 {
-    4 + challenges_length(n, t, a)
+    4 + challenges_length(a, b)
 }
 
-pub fn response_length(n: u8, t: u8) -> usize
-    ensures { λ r. ⌜ r ≡ responseLength n t ⌝ }
+pub fn response_length(b: u8) -> usize
+    ensures { λ r. ⌜ r ≡ responseLength b ⌝ }
 {
-    4 + 4 * parameters::batch(n, t) as usize
+    4 + 4 * b as usize
 }
 
 // Where the shares of a dealing begin.

@@ -14,7 +14,7 @@ use Rattle.sets.specs.Masks.{has}
 use Rattle.sets.specs.MaskLaws.{has-above}
 use Rattle.sets.specs.WidthLaws.{width-of}
 use Rattle.field.specs.Definitions.{isScalar, isElement, isIdentity}
-use Rattle.parameters.specs.Definitions.{quorum, batch}
+use Rattle.parameters.specs.Definitions.{quorum}
 use Rattle.records.specs.Bytes.{byteAt, word, sender}
 use Rattle.records.specs.Tags.{setupLength, dealingLength, complaintLength, responseLength, sharesFrom, maskAt}
 use Rattle.refusals.specs.Refusals.{setupRefusal, headRefusal, dealingRefusal, maskFits, complaintRefusal, responseRefusal}
@@ -127,23 +127,23 @@ complaint-passes n s h =
 
 -- ---- a response row that is not refused
 
-pub record PassedResponse (n t : ℕ) (s : List ℕ) : Type 0 where
+pub record PassedResponse (n b : ℕ) (s : List ℕ) : Type 0 where
   pub sender-pos : 0 < sender s
   pub sender-max : sender s ≤ n
-  pub scalars : (x : ℕ) → x < batch n t → isScalar (word s 4 x) ≡ true
-  pub long : length s ≡ responseLength n t
+  pub scalars : (x : ℕ) → x < b → isScalar (word s 4 x) ≡ true
+  pub long : length s ≡ responseLength b
   pub reserved : byteAt s 3 ≡ 0
 
-pub response-passed : (n t : ℕ) (s : List ℕ) → responseRefusal n t s ≡ 0 → PassedResponse n t s
+pub response-passed : (n b : ℕ) (s : List ℕ) → responseRefusal n b s ≡ 0 → PassedResponse n b s
 unfolding responseRefusal
-response-passed n t s e =
+response-passed n b s e =
     let p = or-next _ _ e in
     let h = head-passed n _ s (p .0) in
     let v = passed _ _ _ (p .1) (omega arith) in
     record { sender-pos = h .2; sender-max = h .3; scalars = all-at _ _ (v .0); long = h .0; reserved = h .1 }
 
-pub response-passes : (n t : ℕ) (s : List ℕ) → PassedResponse n t s → responseRefusal n t s ≡ 0
+pub response-passes : (n b : ℕ) (s : List ℕ) → PassedResponse n b s → responseRefusal n b s ≡ 0
 unfolding responseRefusal
-response-passes n t s h =
+response-passes n b s h =
     next-pass _ _ (head-passes n _ s (h .long) (h .reserved) (h .sender-pos) (h .sender-max))
     (require-pass _ _ _ (all-make _ _ (h .scalars)) refl)

@@ -7,11 +7,11 @@ use lib.ListN.{length}
 use lib.Dec.{eqb, ltb, leb}
 use Rattle.lists.specs.Tests.{allTo, require, orNext}
 use Rattle.field.specs.Definitions.{isScalar, isElement, isIdentity}
-use Rattle.parameters.specs.Definitions.{inBounds, quorum, batch, isParty}
+use Rattle.parameters.specs.Definitions.{inBounds, quorum, isParty}
 use Rattle.records.specs.Bytes.{byteAt, word, sender}
 use Rattle.records.specs.Tags.{setupLength, dealingLength, complaintLength, challengesLength, shiftedLength, responseLength, sharesFrom, maskAt}
 
--- SU: n, t, a, reserved; S, S_1 to S_t. S is not the identity (document 02, request 2.3); the others may be
+-- SU and SX alike: n, t, a, reserved; S, S_1 to S_t. S is not the identity (document 02, request 2.3); the others may be
 unfoldable pub setupRefusal : List ℕ → ℕ
 setupRefusal s =
     require (leb 6 (length s) && eqb (length s) (setupLength (byteAt s 3))) 2
@@ -52,15 +52,15 @@ scalarsRefusal size count s =
     (require (allTo count (λ x. isScalar (word s 4 x))) 6 0))
 
 -- CH: two reserved; the challenges
-unfoldable pub challengesRefusal : ℕ → ℕ → ℕ → List ℕ → ℕ
-challengesRefusal n t a s = scalarsRefusal (challengesLength n t a) (a * batch n t) s
+unfoldable pub challengesRefusal : ℕ → ℕ → List ℕ → ℕ
+challengesRefusal a b s = scalarsRefusal (challengesLength a b) (a * b) s
 
 -- CS (document 02, request 2.1): two reserved; the shift; the challenges
-unfoldable pub shiftedRefusal : ℕ → ℕ → ℕ → List ℕ → ℕ
-shiftedRefusal n t a s = scalarsRefusal (shiftedLength n t a) (a * batch n t + 1) s
+unfoldable pub shiftedRefusal : ℕ → ℕ → List ℕ → ℕ
+shiftedRefusal a b s = scalarsRefusal (shiftedLength a b) (a * b + 1) s
 
 -- RE: holder, reserved; b response numbers
 unfoldable pub responseRefusal : ℕ → ℕ → List ℕ → ℕ
-responseRefusal n t s =
-    orNext (headRefusal n (responseLength n t) s)
-    (require (allTo (batch n t) (λ x. isScalar (word s 4 x))) 6 0)
+responseRefusal n b s =
+    orNext (headRefusal n (responseLength b) s)
+    (require (allTo b (λ x. isScalar (word s 4 x))) 6 0)

@@ -141,32 +141,32 @@ fn scalars_refusal(s: &[u8], size: usize, count: u16) -> u8
 }
 
 // The refusal of challenges, or 0.
-pub fn challenges_refusal(n: u8, t: u8, a: u8, s: &[u8]) -> u8
-    ensures { λ r. ⌜ r ≡ challengesRefusal n t a (now (s .entry)) ⌝ }
+pub fn challenges_refusal(a: u8, b: u8, s: &[u8]) -> u8
+    ensures { λ r. ⌜ r ≡ challengesRefusal a b (now (s .entry)) ⌝ }
 {
-    let size = records::challenges_length(n, t, a);
-    let count = a as u16 * parameters::batch(n, t) as u16;
+    let size = records::challenges_length(a, b);
+    let count = a as u16 * b as u16;
     scalars_refusal(s, size, count)
 }
 
 // The refusal of a shift with challenges, or 0.
-pub fn shifted_refusal(n: u8, t: u8, a: u8, s: &[u8]) -> u8
-    ensures { λ r. ⌜ r ≡ shiftedRefusal n t a (now (s .entry)) ⌝ }
+pub fn shifted_refusal(a: u8, b: u8, s: &[u8]) -> u8
+    ensures { λ r. ⌜ r ≡ shiftedRefusal a b (now (s .entry)) ⌝ }
 {
-    let size = records::shifted_length(n, t, a);
-    let count = a as u16 * parameters::batch(n, t) as u16 + 1;
+    let size = records::shifted_length(a, b);
+    let count = a as u16 * b as u16 + 1;
     scalars_refusal(s, size, count)
 }
 
 // The refusal of a response row, or 0.
-pub fn response_refusal(n: u8, t: u8, s: &[u8]) -> u8
-    ensures { λ r. ⌜ r ≡ responseRefusal n t (now (s .entry)) ⌝ }
+pub fn response_refusal(n: u8, b: u8, s: &[u8]) -> u8
+    ensures { λ r. ⌜ r ≡ responseRefusal n b (now (s .entry)) ⌝ }
 {
-    let number = head_refusal(n, s, records::response_length(n, t));
+    let number = head_refusal(n, s, records::response_length(b));
     if number != 0 {
         return number;
     }
-    if !all_scalars(s, 4, parameters::batch(n, t) as u16) {
+    if !all_scalars(s, 4, b as u16) {
         return 6;
     }
     0

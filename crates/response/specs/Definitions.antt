@@ -9,7 +9,7 @@ use Rattle.sets.specs.Masks.{has, insert, members}
 use Rattle.field.specs.declared.Scalar.{Scalar}
 use Rattle.field.specs.Definitions.{scalar, plus}
 use Rattle.interpolation.specs.Definitions.{party, slot, scalarAt}
-use Rattle.parameters.specs.Definitions.{places, batch}
+use Rattle.parameters.specs.Definitions.{places}
 use Rattle.records.specs.Bytes.{word, sender}
 use Rattle.refusals.specs.Refusals.{responseRefusal}
 use Rattle.arrays.specs.Arrays.{base}
@@ -26,19 +26,20 @@ unfoldable pub noResponses : Responses
 noResponses = record { count = 0; responders = 0; numbers = filled places (scalar 0) }
 
 -- the refusal of an RE at stage 4: 12, then 14, then 15, after those from the input
-unfoldable pub responseNumber : Setup → Dealings → Complaints → Challenges → Responses → List ℕ → ℕ
-responseNumber setup d c e p s =
-    orNext (responseRefusal (setup .n) (setup .t) s)
+unfoldable pub responseNumber : ℕ → Setup → Dealings → Complaints → Challenges → Responses → List ℕ → ℕ
+responseNumber b setup d c e p s =
+    orNext (responseRefusal (setup .n) b s)
     (require (not (has (p .responders) (sender s))) 12
     (require (has (c .holders) (sender s)) 14
-    (require (rowPasses setup d c e s) 15 0)))
+    (require (rowPasses b setup d c e s) 15 0)))
 
-unfoldable pub withResponse : Setup → Responses → List ℕ → Responses
-withResponse setup p s =
+-- a row's b numbers stand from its sender's place on
+unfoldable pub withResponse : ℕ → Responses → List ℕ → Responses
+withResponse b p s =
     record {
       count = p .count + 1;
       responders = insert (p .responders) (sender s);
-      numbers = stored (p .numbers) (base (sender s)) (batch (setup .n) (setup .t)) (λ x. scalar (word s 4 x));
+      numbers = stored (p .numbers) (base (sender s)) b (λ x. scalar (word s 4 x));
     }
 
 -- ---- φ
@@ -57,7 +58,7 @@ phiOf n p u k =
 unfoldable pub shiftedPhiOf : ℕ → Scalar → Responses → ℕ → ℕ → Scalar
 shiftedPhiOf n shift p u k = plus (phiOf n p u k) shift
 
--- a list with every one, u outer
-unfoldable pub signaturesOf : Setup → Scalar → Responses → List Scalar → List Scalar
-signaturesOf setup shift p list =
-    stored list 0 (setup .a * batch (setup .n) (setup .t)) (λ x. shiftedPhiOf (setup .n) shift p (x / setup .a + 1) (x % setup .a + 1))
+-- a list with every one, u from 1 to b outer
+unfoldable pub signaturesOf : ℕ → Setup → Scalar → Responses → List Scalar → List Scalar
+signaturesOf b setup shift p list =
+    stored list 0 (setup .a * b) (λ x. shiftedPhiOf (setup .n) shift p (x / setup .a + 1) (x % setup .a + 1))

@@ -44,6 +44,7 @@ impl Responses {
     // The refusal of a response row, or 0.
     pub fn number(
         self,
+        b: u8,
         setup: Setup,
         dealings: Dealings,
         complaints: Complaints,
@@ -51,9 +52,9 @@ impl Responses {
         bytes: &[u8],
     ) -> u8
         requires { ⌜ inBounds (setup .n) (setup .t) (setup .a) ≡ true ⌝ }
-        ensures { λ r. ⌜ r ≡ responseNumber setup dealings complaints challenges self (now (bytes .entry)) ⌝ }
+        ensures { λ r. ⌜ r ≡ responseNumber b setup dealings complaints challenges self (now (bytes .entry)) ⌝ }
     {
-        let number = refusals::response_refusal(setup.n, setup.t, bytes);
+        let number = refusals::response_refusal(setup.n, b, bytes);
         if number != 0 {
             return number;
         }
@@ -64,22 +65,21 @@ impl Responses {
         if !sets::has(complaints.holders, j) {
             return 14;
         }
-        if !verification::row_passes(setup, dealings, complaints, challenges, bytes) {
+        if !verification::row_passes(b, setup, dealings, complaints, challenges, bytes) {
             return 15;
         }
         0
     }
 
-    // With one more response row.
-    pub fn with(self, setup: Setup, bytes: &[u8]) -> Responses
+    // With one more response row, of b numbers.
+    pub fn with(self, b: u8, bytes: &[u8]) -> Responses
         requires { ⌜ self .count ≤ 64 ⌝ }
-        ensures { λ r. ⌜ r ≡ withResponse setup self (now (bytes .entry)) ⌝ }
+        ensures { λ r. ⌜ r ≡ withResponse b self (now (bytes .entry)) ⌝ }
     {
         let j = records::byte(bytes, 2);
         let before = arrays::predecessor(j);
         let list = self.numbers;
-        let count = parameters::batch(setup.n, setup.t) as u16;
-        let numbers = load_numbers(list, before as u16 * STRIDE as u16, bytes, count);
+        let numbers = load_numbers(list, before as u16 * STRIDE as u16, bytes, b as u16);
         let answers = self.count + 1;
         Responses {
             count: answers,
@@ -101,14 +101,20 @@ impl Responses {
     }
 
     // The list with every shifted φ, u outer.
-    pub fn signatures(self, setup: Setup, shift: Scalar, list: [Scalar; CELLS]) -> [Scalar; CELLS]
-        requires { ⌜ inBounds (setup .n) (setup .t) (setup .a) ≡ true ⌝ }
-        ensures { λ r. ⌜ r ≡ signaturesOf setup shift self list ⌝ }
+    pub fn signatures(
+        self,
+        b: u8,
+        setup: Setup,
+        shift: Scalar,
+        list: [Scalar; CELLS],
+    ) -> [Scalar; CELLS]
+        requires { ⌜ (inBounds (setup .n) (setup .t) (setup .a) ≡ true) × (b ≤ setup .n) ⌝ }
+        ensures { λ r. ⌜ r ≡ signaturesOf b setup shift self list ⌝ }
     {
         let a = setup.a;
         let basis = arrays::member_points(setup.n, self.responders).basis();
         let mut signatures = list;
-        let count = a as u16 * parameters::batch(setup.n, setup.t) as u16;
+        let count = a as u16 * b as u16;
         for x in 0..count {
             let u = (x / a as u16 + 1) as u8;
             let k = (x % a as u16 + 1) as u8;

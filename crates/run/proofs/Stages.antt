@@ -7,11 +7,11 @@ use native.Mathlib.Omega.{arith}
 use lib.Dec.{eqb}
 use borrow.Author.Tests.{eqb-true}
 use Rattle.lists.specs.TestLaws.{pick-case}
-use Rattle.records.specs.Tags.{Tag, SU, DE, VE, CH, CS, RE, unknown, code, decoded, tagOf}
+use Rattle.records.specs.Tags.{Tag, SU, SX, DE, GO, VE, CH, CS, RE, unknown, code, decoded, tagOf}
 use Rattle.records.specs.RecordLaws.{decoded-code}
 use Rattle.run.specs.declared.Run.{Run}
 use Rattle.stages.specs.declared.Handler.{Handler}
-use Rattle.stages.specs.declared.Handler.the-variants.{TakeSetup, TakeDealing, TakeComplaint, TakeChallenges, TakeShifted, TakeResponse, Refuse}
+use Rattle.stages.specs.declared.Handler.the-variants.{TakeSetup, TakeWaiting, TakeDealing, TakeGo, TakeComplaint, TakeChallenges, TakeShifted, TakeResponse, Refuse}
 use Rattle.run.specs.Runs.{wellFormed, stageOf}
 use Rattle.run.specs.RunLaws.{stage-live}
 use Rattle.run.specs.Steps.{handled, stepOf, untakenBy, untaken}
@@ -20,7 +20,9 @@ use Rattle.stages.specs.Definitions.{takenAt, atStage, handlerAt}
 -- taken past stage 0
 abbrev pub Past : Handler → Type 0
 Past TakeSetup = ⊥
+Past TakeWaiting = ⊥
 Past TakeDealing = Unit
+Past TakeGo = Unit
 Past TakeComplaint = Unit
 Past TakeChallenges = Unit
 Past TakeShifted = Unit
@@ -36,7 +38,9 @@ past-at g stage h f =
 past-stage : (g : Tag) (stage : ℕ) → Past (handlerAt g stage) → (0 < stage) × (stage < 6)
 unfolding handlerAt takenAt
 past-stage SU stage = past-at SU stage TakeSetup (λ p. absurd p)
+past-stage SX stage = past-at SX stage TakeWaiting (λ p. absurd p)
 past-stage DE stage = past-at DE stage TakeDealing (λ p. (omega arith, omega arith))
+past-stage GO stage = past-at GO stage TakeGo (λ p. (omega arith, omega arith))
 past-stage VE stage = past-at VE stage TakeComplaint (λ p. (omega arith, omega arith))
 past-stage CH stage = past-at CH stage TakeChallenges (λ p. (omega arith, omega arith))
 past-stage CS stage = past-at CS stage TakeShifted (λ p. (omega arith, omega arith))

@@ -2,5 +2,6 @@ pub mod Runs
 pub mod RunLaws
 pub mod Steps
 pub mod StepLaws
+pub mod NumberLaws
 pub mod RefusalLaws
-pub mod FormedLaws
+pub mod PartyLaws

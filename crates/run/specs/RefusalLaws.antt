@@ -9,14 +9,14 @@ use borrow.Author.Tests.{ne-eqb}
 use Rattle.lists.specs.Tests.{pick, require, orNext}
 use Rattle.records.specs.Tags.{tagOf}
 use Rattle.refusals.specs.Refusals.{setupRefusal, challengesRefusal, shiftedRefusal}
-use Rattle.dealing.specs.Definitions.{dealingNumber}
+use Rattle.dealing.specs.Definitions.{dealingNumber, goNumber}
 use Rattle.complaint.specs.Definitions.{complaintNumber}
 use Rattle.response.specs.Definitions.{responseNumber}
 use Rattle.run.specs.declared.Run.{Run}
 use Rattle.stages.specs.declared.Handler.{Handler}
-use Rattle.stages.specs.declared.Handler.the-variants.{TakeSetup, TakeDealing, TakeComplaint, TakeChallenges, TakeShifted, TakeResponse, Refuse}
+use Rattle.stages.specs.declared.Handler.the-variants.{TakeSetup, TakeWaiting, TakeDealing, TakeGo, TakeComplaint, TakeChallenges, TakeShifted, TakeResponse, Refuse}
 use Rattle.run.specs.Runs.{stageOf}
-use Rattle.run.specs.Steps.{afterSetup, afterDealing, afterComplaint, afterChallenges, afterShifted, afterResponse, refused, answered, handled, stepOf, untakenBy, untaken}
+use Rattle.run.specs.Steps.{afterSetup, afterDealing, afterGo, afterComplaint, afterChallenges, afterShifted, afterResponse, refused, answered, handled, stepOf, untakenBy, untaken}
 use Rattle.stages.specs.Definitions.{handlerAt}
 
 -- a record at its stage that is refused
@@ -32,12 +32,14 @@ unfolding stepOf handled
 refusal-keeps r s = go (handlerAt (tagOf s) (stageOf r))
   where
     go : (h : Handler) → (handled h r s .number ≡ 0 → ⊥) → handled h r s .run ≡ r
-    go TakeSetup n = answered-refused r (setupRefusal s) (afterSetup s) n
+    go TakeSetup n = answered-refused r (setupRefusal s) (afterSetup false s) n
+    go TakeWaiting n = answered-refused r (setupRefusal s) (afterSetup true s) n
     go TakeDealing n = answered-refused r (dealingNumber (r .setup) (r .dealings) s) (afterDealing r s) n
+    go TakeGo n = answered-refused r (goNumber (r .setup .n) (r .setup .t) (r .dealings .count) (r .b) s) (afterGo r) n
     go TakeComplaint n = answered-refused r (complaintNumber (r .setup) (r .dealings) (r .complaints) s) (afterComplaint r s) n
-    go TakeChallenges n = answered-refused r (challengesRefusal (r .setup .n) (r .setup .t) (r .setup .a) s) (afterChallenges r s) n
-    go TakeShifted n = answered-refused r (shiftedRefusal (r .setup .n) (r .setup .t) (r .setup .a) s) (afterShifted r s) n
-    go TakeResponse n = answered-refused r (responseNumber (r .setup) (r .dealings) (r .complaints) (r .challenges) (r .responses) s) (afterResponse r s) n
+    go TakeChallenges n = answered-refused r (challengesRefusal (r .setup .a) (r .b) s) (afterChallenges r s) n
+    go TakeShifted n = answered-refused r (shiftedRefusal (r .setup .a) (r .b) s) (afterShifted r s) n
+    go TakeResponse n = answered-refused r (responseNumber (r .b) (r .setup) (r .dealings) (r .complaints) (r .challenges) (r .responses) s) (afterResponse r s) n
     go (Refuse k) n = refl
 
 -- a refusal that is found is the one that is answered
@@ -73,7 +75,9 @@ untaken-refused r s = go (handlerAt (tagOf s) (stageOf r))
   where
     go : (h : Handler) → (untakenBy h r s ≡ 0 → ⊥) → handled h r s ≡ refused r (untakenBy h r s)
     go TakeSetup n = answered-number r _ n refl
+    go TakeWaiting n = answered-number r _ n refl
     go TakeDealing n = answered-number r _ n refl
+    go TakeGo n = answered-number r _ n refl
     go TakeComplaint n = answered-number r _ n (stops _ _ 12 _ n)
     go TakeChallenges n = answered-number r _ n refl
     go TakeShifted n = answered-number r _ n refl

@@ -1,6 +1,6 @@
--- What a run keeps (document 01, "The run"), and what it says.
-use Prim.Native.Nat.{ℕ}
-use mathlib.Core.Bool.{Bool, _&&_}
+-- What a run keeps (document 01, "The run"; b is of document 02, request 2.5), and what it says.
+use Prim.Native.Nat.{ℕ, _-_}
+use mathlib.Core.Bool.{Bool, _&&_, _||_}
 use mathlib.Core.List.{List}
 use lib.ListN.{getD}
 use lib.Dec.{eqb, leb}
@@ -8,7 +8,7 @@ use Rattle.lists.specs.Tests.{pick}
 use Rattle.lists.specs.Stores.{filled}
 use Rattle.field.specs.declared.Scalar.{Scalar}
 use Rattle.field.specs.Definitions.{scalar}
-use Rattle.parameters.specs.Definitions.{cells, inBounds}
+use Rattle.parameters.specs.Definitions.{cells, inBounds, batch}
 use Rattle.protocol.specs.Transcript.{Transcript}
 use Rattle.arrays.specs.Arrays.{cell}
 use Rattle.dealing.specs.declared.Setup.{Setup}
@@ -23,12 +23,14 @@ use Rattle.response.specs.Definitions.{noResponses}
 use Rattle.challenge.specs.Definitions.{noChallenges}
 use Rattle.run.specs.declared.Run.{Run}
 
--- ---- a run from its parts, and with the stage and one part replaced
+-- ---- a run from its parts, and with the stage and one part replaced. b is the signatures of a packed slot: n-2t in a run begun by SU, and in
+-- one begun by SX 0 until GO, then m-t with m dealings; m is their count
 
-abbrev pub assembled : ℕ → Setup → Dealings → Complaints → Challenges → Responses → List Scalar → Run
-assembled stage setup dealings complaints challenges responses signatures =
+abbrev pub assembled : ℕ → ℕ → Setup → Dealings → Complaints → Challenges → Responses → List Scalar → Run
+assembled stage b setup dealings complaints challenges responses signatures =
     record {
       stage = stage;
+      b = b;
       setup = setup;
       dealings = dealings;
       complaints = complaints;
@@ -37,40 +39,48 @@ assembled stage setup dealings complaints challenges responses signatures =
       signatures = signatures;
     }
 
+abbrev pub setBatch : Run → ℕ → ℕ → Run
+setBatch r stage x = assembled stage x (r .setup) (r .dealings) (r .complaints) (r .challenges) (r .responses) (r .signatures)
+
 abbrev pub setDealings : Run → ℕ → Dealings → Run
-setDealings r stage x = assembled stage (r .setup) x (r .complaints) (r .challenges) (r .responses) (r .signatures)
+setDealings r stage x = assembled stage (r .b) (r .setup) x (r .complaints) (r .challenges) (r .responses) (r .signatures)
 
 abbrev pub setComplaints : Run → ℕ → Complaints → Run
-setComplaints r stage x = assembled stage (r .setup) (r .dealings) x (r .challenges) (r .responses) (r .signatures)
+setComplaints r stage x = assembled stage (r .b) (r .setup) (r .dealings) x (r .challenges) (r .responses) (r .signatures)
 
 abbrev pub setChallenges : Run → ℕ → Challenges → Run
-setChallenges r stage x = assembled stage (r .setup) (r .dealings) (r .complaints) x (r .responses) (r .signatures)
+setChallenges r stage x = assembled stage (r .b) (r .setup) (r .dealings) (r .complaints) x (r .responses) (r .signatures)
 
 abbrev pub setResponses : Run → ℕ → Responses → Run
-setResponses r stage x = assembled stage (r .setup) (r .dealings) (r .complaints) (r .challenges) x (r .signatures)
+setResponses r stage x = assembled stage (r .b) (r .setup) (r .dealings) (r .complaints) (r .challenges) x (r .signatures)
 
 abbrev pub setSignatures : Run → ℕ → List Scalar → Run
-setSignatures r stage x = assembled stage (r .setup) (r .dealings) (r .complaints) (r .challenges) (r .responses) x
+setSignatures r stage x = assembled stage (r .b) (r .setup) (r .dealings) (r .complaints) (r .challenges) (r .responses) x
 
 -- ---- a fresh run: stage 0, every list empty, and a shift of 0
 
 unfoldable pub noScalars : List Scalar
 noScalars = filled cells (scalar 0)
 
-unfoldable pub begun : ℕ → Setup → Run
-begun stage setup = assembled stage setup noDealings noComplaints noChallenges noResponses noScalars
+unfoldable pub begun : ℕ → ℕ → Setup → Run
+begun stage b setup = assembled stage b setup noDealings noComplaints noChallenges noResponses noScalars
 
 unfoldable pub fresh : Run
-fresh = begun 0 noSetup
+fresh = begun 0 0 noSetup
 
 -- ---- its stage
 
--- what every run past stage 0 has that a list of records makes: a stage up to 6, parameters within the bounds, counts up to n
+-- b is what the stage and the m dealings say: past stage 1 m-t, with at least n-t of them; before that the b of n-t, or 0 in a run that waits
+unfoldable pub batchFits : ℕ → ℕ → ℕ → ℕ → ℕ → Bool
+batchFits stage n t m b = pick (leb stage 1) (eqb b 0 || eqb b (batch (n - t) t)) (leb (n - t) m && eqb b (batch m t))
+
+-- what every run past stage 0 has that a list of records makes: a stage up to 6, parameters within the bounds, counts up to n, and its b
 unfoldable pub wellFormed : Run → Bool
 wellFormed r =
     leb (r .stage) 6
     && (inBounds (r .setup .n) (r .setup .t) (r .setup .a)
-    && (leb (r .dealings .count) (r .setup .n) && (leb (r .complaints .count) (r .setup .n) && leb (r .responses .count) (r .setup .n))))
+    && (leb (r .dealings .count) (r .setup .n) && (leb (r .complaints .count) (r .setup .n) && (leb (r .responses .count) (r .setup .n)
+    && batchFits (r .stage) (r .setup .n) (r .setup .t) (r .dealings .count) (r .b)))))
 
 -- a run past stage 0 that is not well formed counts as one at stage 6
 unfoldable pub stageOf : Run → ℕ

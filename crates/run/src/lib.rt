@@ -1,15 +1,15 @@
 // The run: what it keeps, and what a record does to it.
 ghost use mathlib.Core.Path.{_≡_};
 ghost use mathlib.Core.Bool.{true};
-ghost use Prim.Native.Nat.{_+_};
+ghost use Prim.Native.Nat.{_+_, _≤_};
 ghost use Rattle.lists.specs.Tests.{require, orNext};
 ghost use Rattle.parameters.specs.Definitions.{inBounds};
 ghost use Rattle.refusals.specs.Refusals.{setupRefusal, challengesRefusal, shiftedRefusal};
-ghost use Rattle.dealing.specs.Definitions.{dealingNumber};
+ghost use Rattle.dealing.specs.Definitions.{dealingNumber, goNumber};
 ghost use Rattle.complaint.specs.Definitions.{complaintNumber};
 ghost use Rattle.response.specs.Definitions.{responseNumber};
-ghost use Rattle.run.specs.Runs.{setChallenges, fresh, begun, wellFormed, stageOf};
-ghost use Rattle.run.specs.Steps.{refused, answered, afterSetup, afterDealing, afterComplaint, afterChallenges, afterShifted, finished, afterResponse, stepOf, untaken};
+ghost use Rattle.run.specs.Runs.{setChallenges, fresh, begun, batchFits, wellFormed, stageOf};
+ghost use Rattle.run.specs.Steps.{refused, answered, afterSetup, afterDealing, afterGo, afterComplaint, afterChallenges, afterShifted, finished, afterResponse, stepOf, untaken};
 use challenge::Challenges;
 use complaint::Complaints;
 use dealing::Dealings;
@@ -22,9 +22,11 @@ use parameters::PLACES;
 use response::Responses;
 use stages::Handler;
 
-// The run. At stage 5 the signatures, each a shifted φ, stand u outer, k inner.
+// The run. b is the signatures of a packed slot, and 0 while a run that was begun by SX waits for GO; m, the number of dealings, is their count.
+// At stage 5 the signatures, each a shifted φ, stand u outer, k inner.
 pub struct Run {
     pub stage: u8,
+    pub b: u8,
     pub setup: Setup,
     pub dealings: Dealings,
     pub complaints: Complaints,
@@ -49,13 +51,31 @@ fn or_next(number: u8, passed: bool, next: u8) -> u8
     if passed { 0 } else { next }
 }
 
+// Whether b is what the stage and the m dealings say: past stage 1 m-t, with at least n-t of them; before that the b of n-t, or 0 in a run that waits.
+fn batch_fits(stage: u8, n: u8, t: u8, m: u8, b: u8) -> bool
+    requires { ⌜ t ≤ n ⌝ }
+    ensures { λ r. ⌜ r ≡ batchFits stage n t m b ⌝ }
+{
+    if 1 < stage {
+        if m < n - t {
+            return false;
+        }
+        return b == parameters::batch(m, t);
+    }
+    if b == 0 {
+        return true;
+    }
+    b == parameters::batch(n - t, t)
+}
+
 impl Run {
-    // A run at a stage with a setup, and every list empty.
-    fn begun(stage: u8, setup: Setup) -> Run
-        ensures { λ r. ⌜ r ≡ begun stage setup ⌝ }
+    // A run at a stage with b and a setup, and every list empty.
+    fn begun(stage: u8, b: u8, setup: Setup) -> Run
+        ensures { λ r. ⌜ r ≡ begun stage b setup ⌝ }
     {
         Run {
             stage: stage,
+            b: b,
             setup: setup,
             dealings: Dealings {
                 count: 0,
@@ -87,6 +107,7 @@ impl Run {
     {
         Run::begun(
             0,
+            0,
             Setup {
                 n: 0,
                 t: 0,
@@ -112,7 +133,10 @@ impl Run {
         if n < self.complaints.count {
             return false;
         }
-        self.responses.count <= n
+        if n < self.responses.count {
+            return false;
+        }
+        batch_fits(self.stage, n, self.setup.t, self.dealings.count, self.b)
     }
 
     // The stage; past 0, 6 for a run that is not well formed.
@@ -135,18 +159,20 @@ impl Run {
         }
     }
 
-    fn take_setup(self, bytes: &[u8]) -> Reply
-        ensures { λ r. ⌜ r ≡ answered self (setupRefusal (now (bytes .entry))) (afterSetup (now (bytes .entry))) ⌝ }
+    // SU, or SX, whose run waits.
+    fn take_setup(self, waits: bool, bytes: &[u8]) -> Reply
+        ensures { λ r. ⌜ r ≡ answered self (setupRefusal (now (bytes .entry))) (afterSetup waits (now (bytes .entry))) ⌝ }
     {
         let number = refusals::setup_refusal(bytes);
         if number != 0 {
             return self.answer(number);
         }
         let setup = Setup::read(bytes);
-        Reply {
-            run: Run::begun(1, setup),
-            number: 0,
+        if waits {
+            return Run::begun(1, 0, setup).answer(0);
         }
+        let b = parameters::batch(setup.n - setup.t, setup.t);
+        Run::begun(1, b, setup).answer(0)
     }
 
     fn take_dealing(self, bytes: &[u8]) -> Reply
@@ -161,16 +187,27 @@ impl Run {
         }
         let dealings = old.with(setup, bytes);
         let mut next = self;
-        next.stage = if dealings.count == setup.n - setup.t {
-            2
-        } else {
-            1
-        };
+        next.stage = dealing::dealing_stage(setup.n, setup.t, dealings.count, self.b);
         next.dealings = dealings;
         Reply {
             run: next,
             number: 0,
         }
+    }
+
+    fn take_go(self, bytes: &[u8]) -> Reply
+        ensures { λ r. ⌜ r ≡ answered self (goNumber (self .setup .n) (self .setup .t) (self .dealings .count) (self .b) (now (bytes .entry))) (afterGo self) ⌝ }
+    {
+        let t = self.setup.t;
+        let m = self.dealings.count;
+        let number = dealing::go_number(self.setup.n, t, m, self.b, bytes);
+        if number != 0 {
+            return self.answer(number);
+        }
+        let mut gone = self;
+        gone.stage = 2;
+        gone.b = parameters::batch(m, t);
+        gone.answer(0)
     }
 
     // With one more complaint row.
@@ -213,41 +250,43 @@ impl Run {
     }
 
     fn take_challenges(self, bytes: &[u8]) -> Reply
-        ensures { λ r. ⌜ r ≡ answered self (challengesRefusal (self .setup .n) (self .setup .t) (self .setup .a) (now (bytes .entry))) (afterChallenges self (now (bytes .entry))) ⌝ }
+        ensures { λ r. ⌜ r ≡ answered self (challengesRefusal (self .setup .a) (self .b) (now (bytes .entry))) (afterChallenges self (now (bytes .entry))) ⌝ }
     {
-        let setup = self.setup;
-        let number = refusals::challenges_refusal(setup.n, setup.t, setup.a, bytes);
+        let a = self.setup.a;
+        let b = self.b;
+        let number = refusals::challenges_refusal(a, b, bytes);
         if number != 0 {
             return self.answer(number);
         }
         let old = self.challenges;
-        let challenges = old.with(setup, bytes);
+        let challenges = old.with(a, b, bytes);
         self.challenged(challenges).answer(0)
     }
 
     fn take_shifted(self, bytes: &[u8]) -> Reply
-        ensures { λ r. ⌜ r ≡ answered self (shiftedRefusal (self .setup .n) (self .setup .t) (self .setup .a) (now (bytes .entry))) (afterShifted self (now (bytes .entry))) ⌝ }
+        ensures { λ r. ⌜ r ≡ answered self (shiftedRefusal (self .setup .a) (self .b) (now (bytes .entry))) (afterShifted self (now (bytes .entry))) ⌝ }
     {
-        let setup = self.setup;
-        let found = refusals::shifted_refusal(setup.n, setup.t, setup.a, bytes);
+        let a = self.setup.a;
+        let b = self.b;
+        let found = refusals::shifted_refusal(a, b, bytes);
         if found != 0 {
             return self.answer(found);
         }
         let old = self.challenges;
-        let shifted = old.with_shifted(setup, bytes);
+        let shifted = old.with_shifted(a, b, bytes);
         self.challenged(shifted).answer(0)
     }
 
     // Done: every φ is worked out, and shifted.
     fn finish(self) -> Run
-        requires { ⌜ inBounds (self .setup .n) (self .setup .t) (self .setup .a) ≡ true ⌝ }
+        requires { ⌜ (inBounds (self .setup .n) (self .setup .t) (self .setup .a) ≡ true) × (self .b ≤ self .setup .n) ⌝ }
         ensures { λ r. ⌜ r ≡ finished self ⌝ }
     {
         let setup = self.setup;
         let responses = self.responses;
         let list = self.signatures;
         let shift = self.challenges.shift;
-        let signatures = responses.signatures(setup, shift, list);
+        let signatures = responses.signatures(self.b, setup, shift, list);
         let mut next = self;
         next.stage = 5;
         next.signatures = signatures;
@@ -256,18 +295,18 @@ impl Run {
 
     fn take_response(self, bytes: &[u8]) -> Reply
         requires { ⌜ wellFormed self ≡ true ⌝ }
-        ensures { λ r. ⌜ r ≡ answered self (responseNumber (self .setup) (self .dealings) (self .complaints) (self .challenges) (self .responses) (now (bytes .entry))) (afterResponse self (now (bytes .entry))) ⌝ }
+        ensures { λ r. ⌜ r ≡ answered self (responseNumber (self .b) (self .setup) (self .dealings) (self .complaints) (self .challenges) (self .responses) (now (bytes .entry))) (afterResponse self (now (bytes .entry))) ⌝ }
     {
         let setup = self.setup;
         let dealings = self.dealings;
         let complaints = self.complaints;
         let challenges = self.challenges;
         let old = self.responses;
-        let number = old.number(setup, dealings, complaints, challenges, bytes);
+        let number = old.number(self.b, setup, dealings, complaints, challenges, bytes);
         if number != 0 {
             return self.answer(number);
         }
-        let responses = old.with(setup, bytes);
+        let responses = old.with(self.b, bytes);
         let mut next = self;
         next.stage = 4;
         next.responses = responses;
@@ -291,22 +330,25 @@ impl Run {
         let n = self.setup.n;
         let t = self.setup.t;
         let a = self.setup.a;
+        let b = self.b;
         let j = records::byte(bytes, 2);
         let handler = stages::taken_by(records::tag(bytes), self.stage_of());
         match handler {
             Handler::TakeSetup => refusals::setup_refusal(bytes),
+            Handler::TakeWaiting => refusals::setup_refusal(bytes),
             Handler::TakeDealing => {
                 let number = refusals::dealing_refusal(n, t, a, bytes);
                 or_next(number, !sets::has(self.dealings.dealers, j), 12)
             }
+            Handler::TakeGo => dealing::go_number(n, t, self.dealings.count, b, bytes),
             Handler::TakeComplaint => {
                 let number = refusals::complaint_refusal(n, bytes);
                 or_next(number, !sets::has(self.complaints.holders, j), 12)
             }
-            Handler::TakeChallenges => refusals::challenges_refusal(n, t, a, bytes),
-            Handler::TakeShifted => refusals::shifted_refusal(n, t, a, bytes),
+            Handler::TakeChallenges => refusals::challenges_refusal(a, b, bytes),
+            Handler::TakeShifted => refusals::shifted_refusal(a, b, bytes),
             Handler::TakeResponse => {
-                let number = refusals::response_refusal(n, t, bytes);
+                let number = refusals::response_refusal(n, b, bytes);
                 let sent = or_next(number, !sets::has(self.responses.responders, j), 12);
                 or_next(sent, sets::has(self.complaints.holders, j), 14)
             }
@@ -320,8 +362,10 @@ impl Run {
     {
         let handler = stages::taken_by(records::tag(bytes), self.stage_of());
         match handler {
-            Handler::TakeSetup => self.take_setup(bytes),
+            Handler::TakeSetup => self.take_setup(false, bytes),
+            Handler::TakeWaiting => self.take_setup(true, bytes),
             Handler::TakeDealing => self.take_dealing(bytes),
+            Handler::TakeGo => self.take_go(bytes),
             Handler::TakeComplaint => self.take_complaint(bytes),
             Handler::TakeChallenges => self.take_challenges(bytes),
             Handler::TakeShifted => self.take_shifted(bytes),

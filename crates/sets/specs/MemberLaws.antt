@@ -1,7 +1,7 @@
 -- Laws of the members of a set and of their number.
 -- Assumes nothing.
 use mathlib.Core.Path.{_≡_, refl, sym, ap, ap₂, _∙_}
-use mathlib.Core.Bool.{Bool, true, false, _||_, or-true, or-false}
+use mathlib.Core.Bool.{Bool, true, false, not, _&&_, _||_, or-true, or-false}
 use mathlib.Core.List.{List, [], _∷_, _++_, append-nil}
 use Prim.Native.Nat.{ℕ, zero, suc, _+_, _^_, _≤_, _<_}
 use native.Mathlib.Omega.{arith}
@@ -79,6 +79,18 @@ more-members f g j s (suc n) a b o h =
     go (no ne) e ih =
         let same : g s ≡ f s = e ∙ or-none (f s) (eqb s j) (ne-eqb s j ne) in
         rw same (length-pick (f s) s _ _ (ih (omega arith)))
+
+-- without those of a second set: no more are gone than that has members
+pub members-without : (f g : ℕ → Bool) (s n : ℕ) → length (membersFrom f s n) ≤ length (membersFrom (λ i. f i && not (g i)) s n) + length (membersFrom g s n)
+unfolding membersFrom
+members-without f g s zero = omega arith
+members-without f g s (suc n) = go (f s) (g s) _ _ _ (members-without f g (suc s) n)
+  where
+    go : (b c : Bool) (k l m : List ℕ) → length k ≤ length l + length m → length (pick b (s ∷ k) k) ≤ length (pick (b && not c) (s ∷ l) l) + length (pick c (s ∷ m) m)
+    go true true k l m h = omega arith
+    go true false k l m h = omega arith
+    go false true k l m h = omega arith
+    go false false k l m h = omega arith
 
 -- ---- one number more, as a loop counts
 

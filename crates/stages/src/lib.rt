@@ -3,10 +3,12 @@ ghost use mathlib.Core.Path.{_≡_};
 ghost use Rattle.records.specs.Tags.{decoded};
 ghost use Rattle.stages.specs.Definitions.{handlerAt};
 
-// What a record meets by its tag and the run's stage: the handler that takes it, or refusal 1 or 11.
+// What a record meets by its tag and the run's stage: the handler that takes it, or refusal 1 or 11. TakeGo refuses with 11 in a run that does not wait.
 pub enum Handler {
     TakeSetup,
+    TakeWaiting,
     TakeDealing,
+    TakeGo,
     TakeComplaint,
     TakeChallenges,
     TakeShifted,
@@ -41,6 +43,14 @@ pub fn taken_by(tag: u8, stage: u8) -> Handler
         },
         6 => match stage {
             3 => Handler::TakeShifted,
+            _ => Handler::Refuse(11),
+        },
+        7 => match stage {
+            0 => Handler::TakeWaiting,
+            _ => Handler::Refuse(11),
+        },
+        8 => match stage {
+            1 => Handler::TakeGo,
             _ => Handler::Refuse(11),
         },
         _ => Handler::Refuse(1),

@@ -38,6 +38,17 @@ digits-max (suc f) n =
     pick-case (λ (l : List ℕ). length l ≤ f) (ltb n 10) [] (decimalTo f (n / 10)) (λ e. omega arith) (λ e. digits-max f (n / 10)) in
     simp length-append (omega arith)
 
+-- and as many as the number has
+pub digits-few : (f g n : ℕ) → n < 10 ^ suc g → length (decimalTo f n) ≤ suc g
+unfolding decimalTo
+digits-few zero g n h = omega arith
+digits-few (suc f) zero n h = rw (lt-ltb n 10 (omega arith)) (omega arith)
+digits-few (suc f) (suc g) n h =
+    let start : length (pick (ltb n 10) [] (decimalTo f (n / 10))) ≤ suc g =
+    pick-case (λ (l : List ℕ). length l ≤ suc g) (ltb n 10) [] (decimalTo f (n / 10)) (λ e. omega arith)
+    (λ e. digits-few f g (n / 10) (div-lt-iff-lt-mul {k = 10} {x = n} {y = 10 ^ suc g} (omega arith) .1 (rw (pow-suc 10 (suc g)) at h))) in
+    simp length-append (omega arith)
+
 pub decimal-max : (n : ℕ) → length (decimal n) ≤ 10
 unfolding decimal
 decimal-max n = digits-max 10 n
@@ -47,6 +58,11 @@ decimal-max n = digits-max 10 n
 pub field-max : (n : ℕ) → length (field n) ≤ 11
 unfolding field
 field-max n = omega (arith, decimal-max n)
+
+-- of a number with at most g + 1 digits
+pub field-few : (g n : ℕ) → n < 10 ^ suc g → length (field n) ≤ g + 2
+unfolding field decimal
+field-few g n h = omega (arith, digits-few 10 g n h)
 
 pub fields-max : (l : List ℕ) → length (fields l) ≤ 11 * length l
 unfolding fields

@@ -14,7 +14,7 @@ use Rattle.rows.specs.declared.Row.{Row}
 use Rattle.interpolation.specs.Definitions.{party, slot, committedPoint}
 use Rattle.rows.specs.Definitions.{listed, weightsOf, sumOf, productOf}
 use Rattle.rows.specs.TurnLaws.{first, first-weights}
-use Rattle.parameters.specs.Definitions.{quorum, batch}
+use Rattle.parameters.specs.Definitions.{quorum}
 use Rattle.records.specs.Bytes.{word, sender}
 use Rattle.parameters.specs.ParameterLaws.{Bounds, key-max}
 use Rattle.protocol.specs.Transcript.{keyAt, challengeAt, responseAt, passes}
@@ -68,7 +68,7 @@ module _ (setup : Setup) (d : Dealings) (c : Complaints) (e : Challenges) (bound
       all-cong n _ _ (λ i l. ap (λ (v : Element). sameElement (raise generator (scalar (word s 4 i))) v) (wanted-is setup d c e bounds (party (sender s)) (i + 1)))
 
   -- the same with what the calls answer
-  pub row-tested : {j qual need b : ℕ} {x : Scalar} {key : Element} {slotPoints slotWeights points weights : Row}
+  pub row-tested : (b : ℕ) {j qual need : ℕ} {x : Scalar} {key : Element} {slotPoints slotWeights points weights : Row}
       → j ≡ sender s
       → x ≡ party j
       → qual ≡ unblamed (setup .n) c (d .dealers)
@@ -78,10 +78,9 @@ module _ (setup : Setup) (d : Dealings) (c : Complaints) (e : Challenges) (bound
       → slotWeights ≡ weightsOf slotPoints x
       → points ≡ listed need (committedPoint (setup .a))
       → weights ≡ weightsOf points x
-      → b ≡ batch (setup .n) (setup .t)
       → allTo b (fits setup (d .commitments) (e .numbers) qual need key slotWeights weights s)
-      ≡ allTo (batch (setup .n) (setup .t)) (λ i. passes (transcript setup d c e) (i + 1) (sender s) (scalar (word s 4 i)))
-  row-tested ej ex eq en ek es esw ep ew eb = rw (eb, ek, esw, ew, es, ep, ex, ej, eq, en) (row-is _)
+      ≡ allTo b (λ i. passes (transcript setup d c e) (i + 1) (sender s) (scalar (word s 4 i)))
+  row-tested b ej ex eq en ek es esw ep ew = rw (ek, esw, ew, es, ep, ex, ej, eq, en) (row-is b)
 
 -- the weights are as many as the points
 pub all-weights : (m : ℕ) (pt : ℕ → Scalar) (x : Scalar) {points weights : Row} → m ≤ 64 → points ≡ listed m pt → weights ≡ weightsOf points x → first m weights ≡ weights

@@ -5,7 +5,6 @@ use mathlib.Core.List.{List}
 use Rattle.lists.specs.Tests.{allTo}
 use Rattle.sets.specs.Masks.{has}
 use Rattle.field.specs.Definitions.{scalar}
-use Rattle.parameters.specs.Definitions.{batch}
 use Rattle.records.specs.Bytes.{word, sender}
 use Rattle.protocol.specs.Transcript.{Transcript, passes}
 use Rattle.arrays.specs.Arrays.{commitmentIn, challengeIn}
@@ -23,6 +22,7 @@ transcript setup d c e =
       n = setup .n;
       t = setup .t;
       a = setup .a;
+      m = d .count;
       key = keyIn setup;
       qual = λ i. has (d .dealers) i && not (has (blamedBy (setup .n) c) i);
       commitment = commitmentIn (d .commitments);
@@ -30,7 +30,7 @@ transcript setup d c e =
       shift = e .shift;
     }
 
--- every response number of a row passes
-abbrev pub rowPasses : Setup → Dealings → Complaints → Challenges → List ℕ → Bool
-rowPasses setup d c e s =
-    allTo (batch (setup .n) (setup .t)) (λ x. passes (transcript setup d c e) (x + 1) (sender s) (scalar (word s 4 x)))
+-- each of the b response numbers of a row passes
+abbrev pub rowPasses : ℕ → Setup → Dealings → Complaints → Challenges → List ℕ → Bool
+rowPasses b setup d c e s =
+    allTo b (λ x. passes (transcript setup d c e) (x + 1) (sender s) (scalar (word s 4 x)))

@@ -12,8 +12,9 @@ use dealing::Setup;
 use field::Element;
 use field::Scalar;
 
-// Whether every response number of a row passes. The first that fails ends the row.
+// Whether each of the b response numbers of a row passes. The first that fails ends the row.
 pub fn row_passes(
+    b: u8,
     setup: Setup,
     dealings: Dealings,
     complaints: Complaints,
@@ -21,7 +22,7 @@ pub fn row_passes(
     bytes: &[u8],
 ) -> bool
     requires { ⌜ inBounds (setup .n) (setup .t) (setup .a) ≡ true ⌝ }
-    ensures { λ r. ⌜ r ≡ rowPasses setup dealings complaints challenges (now (bytes .entry)) ⌝ }
+    ensures { λ r. ⌜ r ≡ rowPasses b setup dealings complaints challenges (now (bytes .entry)) ⌝ }
 {
     let numbers = challenges.numbers;
     let qual = complaints.unblamed(setup.n, dealings.dealers);
@@ -32,7 +33,7 @@ pub fn row_passes(
     let at_points = points::committed_points(setup.a, quorum).weights(x);
     let mut powers = dealings.commitments;
     let mut passed = true;
-    'row: for u in 0..parameters::batch(setup.n, setup.t) {
+    'row: for u in 0..b {
         let values = combination::combined_values(powers, qual, setup.n, quorum);
         let mut image = Element::ONE;
         for v in 0..quorum {

@@ -12,7 +12,6 @@ use Rattle.sets.specs.MaskLaws.{maskOf-lt, has-maskOf}
 use Rattle.field.specs.Definitions.{scalar, generator, IsScalar, raise}
 use Rattle.field.specs.ScalarLaws.{scalar-word, plus-range}
 use Rattle.interpolation.specs.Definitions.{party}
-use Rattle.parameters.specs.Definitions.{batch}
 use Rattle.records.specs.Bytes.{byteAt, wideAt, word}
 use Rattle.records.specs.Tags.{letterD, letterE, letterR, letterS, letterU, letterV, tagOf, maskWidth, complaintLength, responseLength, maskAt}
 use Rattle.refusals.specs.RefusalLaws.{complaint-passes, response-passes}
@@ -115,14 +114,14 @@ module _ (r : Run) (j key : ℕ) (shares : List ℕ) where
   unfolding responseFor
   number-range u = plus-range _ _
 
-  response-word : (x : ℕ) → x < batch (r .setup .n) (r .setup .t) → word (responseBytes r j key shares) 4 x ≡ responseFor r j key shares (x + 1) .0
+  response-word : (x : ℕ) → x < r .b → word (responseBytes r j key shares) 4 x ≡ responseFor r j key shares (x + 1) .0
   unfolding responseBytes
   response-word x l =
-      word-last (letterR ∷ letterE ∷ j ∷ 0 ∷ []) (batch (r .setup .n) (r .setup .t)) (λ u. responseFor r j key shares (u + 1) .0) x l (scalar-word _ (number-range (x + 1)))
+      word-last (letterR ∷ letterE ∷ j ∷ 0 ∷ []) (r .b) (λ u. responseFor r j key shares (u + 1) .0) x l (scalar-word _ (number-range (x + 1)))
 
-  response-length : length (responseBytes r j key shares) ≡ responseLength (r .setup .n) (r .setup .t)
+  response-length : length (responseBytes r j key shares) ≡ responseLength (r .b)
   unfolding responseBytes responseLength
-  response-length = omega (arith, length-fours (batch (r .setup .n) (r .setup .t)) (λ u. responseFor r j key shares (u + 1) .0))
+  response-length = omega (arith, length-fours (r .b) (λ u. responseFor r j key shares (u + 1) .0))
 
 pub response-accepted : (r : Run) (j key : ℕ) (shares : List ℕ) (room : ℕ)
     → responseRefused r j key shares room ≡ 0
@@ -136,7 +135,7 @@ response-accepted r j key shares room e new own right =
     ap (λ (p : Reply). p .number) (step-first letterR letterE _ r (fits .stage))
     ∙ answered-number r _ _
     ∙ next-pass _ _
-    (response-passes (r .setup .n) (r .setup .t) (responseBytes r j key shares)
+    (response-passes (r .setup .n) (r .b) (responseBytes r j key shares)
     (record {
       sender-pos = fits .party-pos;
       sender-max = fits .party-max;
@@ -147,5 +146,5 @@ response-accepted r j key shares room e new own right =
     (require-pass _ _ _ (ap not new)
     (require-pass _ _ _ (fits .holder)
     (require-pass _ _ _
-    (all-make (batch (r .setup .n) (r .setup .t)) _ (λ x l. rw (response-word r j key shares x l) (number-passes (transcriptOf r) j shares right key own (x + 1))))
+    (all-make (r .b) _ (λ x l. rw (response-word r j key shares x l) (number-passes (transcriptOf r) j shares right key own (x + 1))))
     refl)))

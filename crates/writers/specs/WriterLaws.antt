@@ -67,7 +67,7 @@ pub record ResponseFits (r : Run) (j : ℕ) (shares : List ℕ) (room : ℕ) : T
   pub party-max : j ≤ r .setup .n
   pub holder : has (r .complaints .holders) j ≡ true
   pub count : length shares ≡ r .setup .n
-  pub exact : room ≡ responseLength (r .setup .n) (r .setup .t)
+  pub exact : room ≡ responseLength (r .b)
 
 pub response-fits : (r : Run) (j key : ℕ) (shares : List ℕ) (room : ℕ) → responseRefused r j key shares room ≡ 0 → ResponseFits r j shares room
 unfolding responseRefused sharesRefused

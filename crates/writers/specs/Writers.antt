@@ -11,7 +11,7 @@ use Rattle.sets.specs.Masks.{has, maskOf}
 use Rattle.field.specs.declared.Scalar.{Scalar}
 use Rattle.field.specs.Definitions.{scalar, isScalar, plus, times}
 use Rattle.interpolation.specs.Definitions.{party}
-use Rattle.parameters.specs.Definitions.{batch, isParty}
+use Rattle.parameters.specs.Definitions.{isParty}
 use Rattle.records.specs.Tags.{letterE, letterR, letterV, maskWidth, complaintLength, responseLength}
 use Rattle.encoding.specs.Bytes.{bytesOf, fours}
 use Rattle.protocol.specs.Transcript.{Transcript, validShare, coefficient, challengeAt}
@@ -38,7 +38,7 @@ unfoldable pub sharesRefused : Run → ℕ → List ℕ → ℕ → ℕ
 sharesRefused r key shares room =
     require (eqb (length shares) (r .setup .n)) 10
     (require (isScalar key && allTo (r .setup .n) (λ i. not (transcriptOf r .qual (i + 1)) || isScalar (getD shares i 0))) 6
-    (require (eqb room (responseLength (r .setup .n) (r .setup .t))) 9 0))
+    (require (eqb room (responseLength (r .b))) 9 0))
 
 unfoldable pub responseRefused : Run → ℕ → ℕ → List ℕ → ℕ → ℕ
 responseRefused r j key shares room =
@@ -58,7 +58,7 @@ responseFor r j key shares u =
 
 unfoldable pub responseBytes : Run → ℕ → ℕ → List ℕ → List ℕ
 responseBytes r j key shares =
-    letterR ∷ letterE ∷ j ∷ 0 ∷ fours (batch (r .setup .n) (r .setup .t)) (λ u. responseFor r j key shares (u + 1) .0)
+    letterR ∷ letterE ∷ j ∷ 0 ∷ fours (r .b) (λ u. responseFor r j key shares (u + 1) .0)
 
 -- the shares of QUAL are valid (document 01: right) for holder j
 abbrev pub ValidShares : Transcript → ℕ → List ℕ → Type 0

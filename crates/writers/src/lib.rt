@@ -8,7 +8,7 @@ ghost use lib.Seq.{sets};
 ghost use Rattle.lists.specs.Tests.{pick, allTo};
 ghost use Rattle.sets.specs.Masks.{has, maskOf};
 ghost use Rattle.field.specs.Definitions.{isScalar};
-ghost use Rattle.parameters.specs.Definitions.{mostParties, batch};
+ghost use Rattle.parameters.specs.Definitions.{mostParties};
 ghost use Rattle.encoding.specs.Bytes.{fours};
 ghost use Rattle.run.specs.Runs.{wellFormed};
 ghost use Rattle.dealing.specs.Definitions.{mayBlame};
@@ -106,7 +106,7 @@ fn shares_refused(run: Run, key: u32, shares: &[u32], room: usize) -> u8
     if !shares_in_range(answers::unblamed(run), n, shares) {
         return 6;
     }
-    if room != records::response_length(n, run.setup.t) {
+    if room != records::response_length(run.b) {
         return 9;
     }
     0
@@ -144,12 +144,12 @@ fn combined_share(qual: u64, n: u8, shares: &[u32], u: u8) -> Scalar
 
 // The response numbers of j for 1 to b.
 fn put_responses(out: &mut [u8], run: Run, j: u8, key: u32, shares: &[u32])
-    requires { ⌜ (wellFormed run ≡ true) × (length (now shares) ≡ run .setup .n) × (4 + 4 * batch (run .setup .n) (run .setup .t) ≤ length (now out)) ⌝ }
-    ensures { λ _. ⌜ now (out .exit) ≡ sets (now (out .entry)) 4 (fours (batch (run .setup .n) (run .setup .t)) (λ u. responseFor run j key (now (shares .entry)) (u + 1) .0)) ⌝ }
+    requires { ⌜ (wellFormed run ≡ true) × (length (now shares) ≡ run .setup .n) × (4 + 4 * run .b ≤ length (now out)) ⌝ }
+    ensures { λ _. ⌜ now (out .exit) ≡ sets (now (out .entry)) 4 (fours (run .b) (λ u. responseFor run j key (now (shares .entry)) (u + 1) .0)) ⌝ }
 {
     let n = run.setup.n;
     let a = run.setup.a;
-    let count = parameters::batch(n, run.setup.t);
+    let count = run.b;
     let qual = answers::unblamed(run);
     let challenges = run.challenges.numbers;
     let weights = points::slot_points(a).weights(points::point(j, 0));

@@ -9,12 +9,12 @@ use mathlib.Core.Bool.{true, false, and-eq-true-iff}
 use lib.Arith.{digits-lt}
 use lib.Dec.{eqb}
 use Rattle.lists.specs.CallLaws.{holds, fails, is-not}
-use Rattle.parameters.specs.Definitions.{cells, batch}
+use Rattle.parameters.specs.Definitions.{cells}
 use Rattle.parameters.specs.ParameterLaws.{cells-max}
 use Rattle.arrays.specs.Arrays.{cell}
 use Rattle.run.specs.declared.Run.{Run}
 use Rattle.run.specs.Runs.{stageOf, kept}
-use Rattle.run.specs.RunLaws.{formed-of, stage-live}
+use Rattle.run.specs.RunLaws.{formed-of, formed-batch, stage-live}
 use Rattle.answers.specs.Answers.{inBatch, phiAnswer}
 use Rattle.answers.proofs.signature_at.Statement.{statement}
 use Rattle.answers.proofs.signature_at.Tie as tie
@@ -27,13 +27,13 @@ placed r u k e h =
     let pu = and-eq-true-iff _ _ .0 (p .0) in
     let pk = and-eq-true-iff _ _ .0 (p .1) in
     let u-pos : 1 ≤ u = leb-true 1 u (pu .0) in
-    let u-max : u ≤ batch (r .setup .n) (r .setup .t) = leb-true u _ (pu .1) in
+    let u-max : u ≤ r .b = leb-true u _ (pu .1) in
     let k-pos : 1 ≤ k = leb-true 1 k (pk .0) in
     let k-max : k ≤ r .setup .a = leb-true k _ (pk .1) in
-    let b = formed-of r (stage-live r 5 e (omega arith) (omega arith) .1) .bounds in
-    let in-batch : u - 1 < batch (r .setup .n) (r .setup .t) = omega arith in
+    let formed = formed-of r (stage-live r 5 e (omega arith) (omega arith) .1) in
+    let in-batch : u - 1 < r .b = omega arith in
     let in-slots : k - 1 < r .setup .a = omega arith in
-    (u-pos, k-pos, omega (arith, digits-lt in-batch in-slots, cells-max b, mul-comm (r .setup .a) (batch (r .setup .n) (r .setup .t))))
+    (u-pos, k-pos, omega (arith, digits-lt in-batch in-slots, cells-max (formed .bounds) (formed-batch formed), mul-comm (r .setup .a) (r .b)))
 
 stage-of-requires : tie.Need-stage-of-requires
 stage-of-requires c κs = search needs

@@ -9,7 +9,6 @@ use borrow.Author.Tests.{eq-eqb, ne-eqb}
 use lib.Dec.{eqb}
 use lib.ListN.{length}
 use Rattle.lists.specs.Tests.{pick}
-use Rattle.parameters.specs.Definitions.{batch}
 use Rattle.text.specs.Texts.{Wrote}
 use Rattle.text.specs.TextLaws.{wrote-none, wrote-length, wrote-append}
 use Rattle.text.specs.LineLaws.{set-place}
@@ -97,7 +96,7 @@ signed : (c : tie.Joined1) →
     let p = c .before .before .before in
     let r = p .before .before .before .before .before .before .before .before .before .before .before .before .before .before .before .before .args .run in
     Wrote (p .put-set3 .last .0) (c .if1 .out) (p .put-set3 .result) (c .if1 .next)
-    (pick (eqb (stageOf r) 5) (signatureLines r (r .setup .a * batch (r .setup .n) (r .setup .t))) [])
+    (pick (eqb (stageOf r) 5) (signatureLines r (r .setup .a * r .b)) [])
 signed c =
     let p = c .before .before .before in
     let g = p .before .before .before .before .before .before .before .before .before .before .before .before .before .before in

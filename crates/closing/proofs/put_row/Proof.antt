@@ -13,7 +13,7 @@ use Rattle.text.specs.TextLaws.{wrote-none, wrote-length, wrote-append}
 use Rattle.protocol.specs.Transcript.{nonce, shiftedNonce}
 use Rattle.combination.specs.PowerLaws.{combined-powers}
 use Rattle.run.specs.Runs.{transcriptOf}
-use Rattle.run.specs.RunLaws.{formed-of}
+use Rattle.run.specs.RunLaws.{formed-of, formed-batch}
 use Rattle.closing.specs.Closing.{mostLine}
 use Rattle.closing.specs.SignatureLaws.{rowLines, line-is, row-next, row-max, nonce-is, shifted-is, kept-at, kept-below}
 use Rattle.closing.proofs.put_row.Statement.{statement}
@@ -27,6 +27,10 @@ abbrev μ-loop : tie.MeasureT-loop
 
 bounds : (s : tie.Start Inv-loop μ-loop) → Bounds (s .args .t3 .setup .n) (s .args .t3 .setup .t) (s .args .t3 .setup .a)
 bounds s = formed-of (s .args .t3) (s .pre .0) .bounds
+
+-- b is no more than n
+few : (s : tie.Start Inv-loop μ-loop) → s .args .t3 .b ≤ s .args .t3 .setup .n
+few s = formed-batch (formed-of (s .args .t3) (s .pre .0))
 
 -- where the function begins, from where the loop does
 abbrev start : tie.At-loop Inv-loop μ-loop → tie.Start Inv-loop μ-loop
@@ -66,7 +70,7 @@ mul-first : tie.Need-mul-first Inv-loop μ-loop
 mul-first c =
     let s = c .before .before .before .before .before .before .before .before in
     let b = bounds s in
-    omega (arith, kept-below b (s .args .u) 0 (s .pre .1) (s .pre .2) (b .a-pos))
+    omega (arith, kept-below b (few s) (s .args .u) 0 (s .pre .1) (s .pre .2) (b .a-pos))
 
 loop-holds : tie.Need-loop-holds Inv-loop μ-loop
 unfolding rowLines
@@ -102,7 +106,7 @@ placed : (c : tie.In-loop Inv-loop μ-loop) →
     (a .u - 1) * a .t3 .setup .a + c .before .loop .k < cells
 placed c =
     let s = start (c .before) in
-    kept-below (bounds s) (s .args .u) (c .before .loop .k) (s .pre .1) (s .pre .2) (c .loop-test .taken)
+    kept-below (bounds s) (few s) (s .args .u) (c .before .loop .k) (s .pre .1) (s .pre .2) (c .loop-test .taken)
 
 add-phi : tie.Need-add-phi Inv-loop μ-loop
 add-phi c = omega (arith, placed (c .before .before .before .before))
@@ -149,8 +153,8 @@ found c =
     let q = v .before in
     let s = q .before .before .before .before .before in
     let r = s .args .t3 in
-    let few = quorum-max (bounds s) in
-    let values = combined-powers (r .setup .n) _ (r .dealings .commitments) (s .args .u) _ (omega (arith, few, q .before .quorum .ensures)) refl (s .pre .3) (v .combined-values .ensures) in
+    let bound = quorum-max (bounds s) in
+    let values = combined-powers (r .setup .n) _ (r .dealings .commitments) (s .args .u) _ (omega (arith, bound, q .before .quorum .ensures)) refl (s .pre .3) (v .combined-values .ensures) in
     c .product .ensures
     ∙ rw (w .weights .ensures, w .before .point .ensures, b .basis .ensures, weights-by, b .before .committed-points .ensures, values, q .unblamed .ensures, q .before .quorum .ensures, ← slot-is)
     (nonce-is r (s .args .u) (l .loop .k + 1) (bounds s))

@@ -5,13 +5,13 @@ use native.Mathlib.Nat.{zero-mul, mul-le-mul, mul-comm, le-refl}
 use native.Mathlib.Omega.{arith}
 use borrow.Author.Needs.{needs}
 use lib.ListN.{length}
-use Rattle.parameters.specs.Definitions.{mostParties, batch}
-use Rattle.parameters.specs.ParameterLaws.{Bounds, batch-max, cells-max}
+use Rattle.parameters.specs.Definitions.{mostParties}
+use Rattle.parameters.specs.ParameterLaws.{cells-max}
 use Rattle.text.specs.Texts.{Wrote}
 use Rattle.text.specs.TextLaws.{wrote-none, wrote-length, wrote-append}
 use Rattle.combination.specs.Combination.{powersAt}
 use Rattle.combination.specs.PowerLaws.{powers-none, powers-next}
-use Rattle.run.specs.RunLaws.{formed-of}
+use Rattle.run.specs.RunLaws.{Formed, formed-of, formed-batch}
 use Rattle.closing.specs.Closing.{mostLine, signatureLines}
 use Rattle.closing.specs.SignatureLaws.{rows-next, signatures-max}
 use Rattle.closing.proofs.put_signatures.Statement.{statement}
@@ -23,41 +23,37 @@ Inv-loop out₀ at run count powers₀ next₀ u₀ out powers next u = (u ≤ c
 abbrev μ-loop : tie.MeasureT-loop
 μ-loop out₀ at run count powers₀ next₀ u₀ out powers next u = count - u
 
-batch-requires : tie.Need-batch-requires Inv-loop μ-loop
-batch-requires c κs = search needs
-
 loop-holds : tie.Need-loop-holds Inv-loop μ-loop
 unfolding signatureLines
 loop-holds c = (omega arith, powers-none _ _, rw zero-mul (wrote-none _ _))
 
-bounds : (s : tie.Start Inv-loop μ-loop) → Bounds (s .args .run .setup .n) (s .args .run .setup .t) (s .args .run .setup .a)
-bounds s = formed-of (s .args .run) (s .pre .0) .bounds
+formed : (s : tie.Start Inv-loop μ-loop) → Formed (s .args .run)
+formed s = formed-of (s .args .run) (s .pre .0)
 
 -- the rows are few
 rows : (c : tie.In-loop Inv-loop μ-loop) → c .before .loop .u < mostParties
 rows c =
-    let b = c .before .before .before in
-    omega (arith, c .loop-test .taken, b .batch .ensures, batch-max (bounds (b .before .before)))
+    let known = formed (c .before .before .before .before) in
+    omega (arith, c .loop-test .taken, formed-batch known, known .bounds .n-max)
 
 add-put-row : tie.Need-add-put-row Inv-loop μ-loop
 add-put-row c = omega (arith, rows (c .before))
 
 -- the buffer is as long as it was, and the place has gone on by at most one line for each signature
 room : (c : tie.At-loop Inv-loop μ-loop) →
-    let a = c .before .before .before .before .args in
+    let a = c .before .before .before .args in
     (length (c .loop .out) ≡ length (a .out .now)) × (c .loop .next ≤ a .at + mostLine * (c .loop .u * a .run .setup .a))
 room c =
-    let a = c .before .before .before .before .args in
+    let a = c .before .before .before .args in
     (wrote-length (c .loop .inv .2), omega (arith, c .loop .inv .2 .place, signatures-max (a .run) (c .loop .u * a .run .setup .a)))
 
 put-row-requires : tie.Need-put-row-requires Inv-loop μ-loop
 put-row-requires c κs =
     let i = c .before in
     let l = i .before in
-    let b = l .before .before in
-    let s = b .before .before in
+    let s = l .before .before .before in
     let r = s .args .run in
-    let few : l .loop .u + 1 ≤ batch (r .setup .n) (r .setup .t) = omega (arith, i .loop-test .taken, b .batch .ensures) in (
+    let few : l .loop .u + 1 ≤ r .b = omega (arith, i .loop-test .taken) in (
       s .pre .0,
       omega arith,
       few,
@@ -67,8 +63,8 @@ put-row-requires c κs =
         room l,
         s .pre .1,
         mul-le-mul few (le-refl (r .setup .a)),
-        mul-comm (batch (r .setup .n) (r .setup .t)) (r .setup .a),
-        cells-max (bounds s),
+        mul-comm (r .b) (r .setup .a),
+        cells-max (formed s .bounds) (formed-batch (formed s)),
       ),
     )
 
@@ -85,7 +81,7 @@ loop-again : tie.Need-loop-again Inv-loop μ-loop
 loop-again c =
     let p = c .before .before .before in
     let l = p .before .before .before in
-    let r = l .before .before .before .before .args .run in (
+    let r = l .before .before .before .args .run in (
       omega arith,
       powers-next (r .setup .n) (r .dealings .commitments) (l .loop .u) (l .loop .inv .1) (c .raised .ensures),
       rw (← rows-next r (l .loop .u)) (wrote-append (l .loop .inv .2) (p .put-row .ensures)),
@@ -97,10 +93,9 @@ same-length c = room (c .before) .0
 returns : tie.Need-returns Inv-loop μ-loop
 returns c =
     let l = c .before in
-    let b = l .before .before in
-    let r = b .before .before .args .run in
-    let end : l .loop .u ≡ batch (r .setup .n) (r .setup .t) = omega (arith, b .batch .ensures) in
-    rw (end, mul-comm (batch (r .setup .n) (r .setup .t)) (r .setup .a)) at (l .loop .inv .2)
+    let r = l .before .before .before .args .run in
+    let end : l .loop .u ≡ r .b = omega arith in
+    rw (end, mul-comm (r .b) (r .setup .a)) at (l .loop .inv .2)
 
 pub put-signatures-spec : {M : Type 1} → statement M
 put-signatures-spec =
@@ -108,7 +103,6 @@ put-signatures-spec =
     (tie.spec
     Inv-loop
     μ-loop
-    batch-requires
     loop-holds
     add-put-row
     put-row-requires

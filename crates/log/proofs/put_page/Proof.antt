@@ -149,7 +149,8 @@ stored c =
 put-refusal-requires : tie.Need-put-refusal-requires Inv-loop μ-loop
 put-refusal-requires c κs =
     let l = c .before .before .before .before .before .before .before .before in
-    omega (arith, reading-place (l .loop .inv), reading-length (l .loop .inv), l .before .before .before .before .pre)
+    let start = l .before .before .before .before in
+    omega (arith, reading-place (l .loop .inv) (start .pre .0), reading-length (l .loop .inv), start .pre)
 
 add-from : tie.Need-add-from Inv-loop μ-loop
 add-from c =
@@ -174,7 +175,8 @@ loop-again c =
 put-closing-requires : tie.Need-put-closing-requires Inv-loop μ-loop
 put-closing-requires c κs =
     let l = c .before .before in
-    (l .loop .inv .regular .parties, omega (arith, reading-place (l .loop .inv), reading-length (l .loop .inv), l .before .before .before .before .pre))
+    let start = l .before .before .before .before in
+    (l .loop .inv .few, omega (arith, reading-place (l .loop .inv) (start .pre .0), reading-length (l .loop .inv), start .pre))
 
 same-length : tie.Need-same-length Inv-loop μ-loop
 same-length c =

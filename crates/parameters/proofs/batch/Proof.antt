@@ -5,12 +5,6 @@ use Rattle.parameters.specs.Definitions.{batch}
 use Rattle.parameters.proofs.batch.Statement.{statement}
 use Rattle.parameters.proofs.batch.Tie as tie
 
-mul-twice : tie.Need-mul-twice
-mul-twice c = search needs
-
-cast-result : tie.Need-cast-result
-cast-result c = search needs
-
 sub-result : tie.Need-sub-result
 sub-result c = search needs
 
@@ -23,4 +17,4 @@ unfolding batch
 returns-2 c = omega arith
 
 pub batch-spec : {M : Type 1} → statement M
-batch-spec = tie.close (tie.spec mul-twice cast-result sub-result returns returns-2)
+batch-spec = tie.close (tie.spec sub-result returns returns-2)

@@ -1,8 +1,6 @@
 -- `shifted_length` meets its contract: CH with one number more. Assumes nothing.
 use borrow.Author.Needs.{needs}
 use native.Mathlib.Omega.{arith}
-use Prim.Native.Nat.{_<_}
-use Rattle.parameters.specs.Definitions.{batch}
 use Rattle.records.specs.Tags.{challengesLength, shiftedLength}
 use Rattle.records.specs.RecordLaws.{byte-product}
 use Rattle.records.proofs.shifted_length.Statement.{statement}
@@ -12,11 +10,10 @@ challenges-length-requires : tie.Need-challenges-length-requires
 challenges-length-requires c κs = search needs
 
 add-result : tie.Need-add-result
-unfolding challengesLength batch
+unfolding challengesLength
 add-result c =
-    let a = c .before .args in
-    let few : batch (a .n) (a .t) < 256 = omega arith in
-    omega (arith, c .challenges-length .ensures, byte-product (a .a) (batch (a .n) (a .t)) (omega arith) few)
+    let k = c .before .args in
+    omega (arith, c .challenges-length .ensures, byte-product (k .a) (k .b) (omega arith) (omega arith))
 
 returns : tie.Need-returns
 unfolding challengesLength shiftedLength

@@ -53,12 +53,22 @@ returns-7 c = rw (le-ltb _ _ (c .before .before .before .if1 .left), ← c .befo
 
 returns-8 : tie.Need-returns-8
 unfolding tagOf
-returns-8 c =
+returns-8 c = rw (le-ltb _ _ (c .before .before .before .if1 .left), ← c .before .before .byte .ensures, ← c .before .byte2 .ensures, c .match .keys7)
+
+returns-9 : tie.Need-returns-9
+unfolding tagOf
+returns-9 c = rw (le-ltb _ _ (c .before .before .before .if1 .left), ← c .before .before .byte .ensures, ← c .before .byte2 .ensures, c .match .keys8)
+
+returns-10 : tie.Need-returns-10
+unfolding tagOf
+returns-10 c =
     let r = c .match .rest in
     simp (
       le-ltb _ _ (c .before .before .before .if1 .left),
       ← c .before .before .byte .ensures,
       ← c .before .byte2 .ensures,
+      ne-eqb _ _ (r .0 .0 .0 .0 .0 .0 .0 .1),
+      ne-eqb _ _ (r .0 .0 .0 .0 .0 .0 .1),
       ne-eqb _ _ (r .0 .0 .0 .0 .0 .1),
       ne-eqb _ _ (r .0 .0 .0 .0 .1),
       ne-eqb _ _ (r .0 .0 .0 .1),
@@ -84,4 +94,6 @@ tag-spec =
     returns-5
     returns-6
     returns-7
-    returns-8)
+    returns-8
+    returns-9
+    returns-10)

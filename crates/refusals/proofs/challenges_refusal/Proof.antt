@@ -10,29 +10,16 @@ use Rattle.refusals.proofs.challenges_refusal.Tie as tie
 challenges-length-requires : tie.Need-challenges-length-requires
 challenges-length-requires c κs = search needs
 
-batch-requires : tie.Need-batch-requires
-batch-requires c κs = search needs
-
-cast-count : tie.Need-cast-count
-cast-count c = search needs
-
 mul-count : tie.Need-mul-count
-mul-count c = omega (arith, byte-product (c .before .before .before .args .a) (c .batch .result) (omega arith) (omega arith))
+mul-count c = omega (arith, byte-product (c .before .before .args .a) (c .before .before .args .b) (omega arith) (omega arith))
 
 scalars-refusal-requires : tie.Need-scalars-refusal-requires
 scalars-refusal-requires c κs = search needs
 
 returns : tie.Need-returns
 unfolding challengesRefusal
-returns c = c .scalars-refusal .ensures ∙ rw (c .before .before .challenges-length .ensures, c .before .batch .ensures)
+returns c = c .scalars-refusal .ensures ∙ rw (c .before .challenges-length .ensures)
 
 pub challenges-refusal-spec : {M : Type 1} → statement M
 challenges-refusal-spec =
-    tie.close
-    (tie.spec
-    challenges-length-requires
-    batch-requires
-    cast-count
-    mul-count
-    scalars-refusal-requires
-    returns)
+    tie.close (tie.spec challenges-length-requires mul-count scalars-refusal-requires returns)

@@ -2,11 +2,11 @@
 use borrow.Author.Needs.{needs}
 use borrow.Author.Tests.{lt-ltb}
 use native.Mathlib.Omega.{arith}
-use native.Mathlib.Nat.{one-mul}
-use mathlib.Core.Path.{_≡_, sym, ap, _∙_}
-use Prim.Native.Nat.{_*_, _^_, _%_, _<_}
+use mathlib.Core.Path.{sym, ap}
+use Prim.Native.Nat.{_^_, _<_}
 use lib.Dec.{ltb}
-use lib.Pow.{pow-mono, shl-exact}
+use lib.Pow.{pow-mono}
+use Rattle.sets.specs.BitLaws.{one-shifted}
 use Rattle.refusals.specs.Refusals.{maskFits}
 use Rattle.refusals.proofs.mask_fits.Statement.{statement}
 use Rattle.refusals.proofs.mask_fits.Tie as tie
@@ -25,8 +25,7 @@ returns-2 : tie.Need-returns-2
 unfolding maskFits
 returns-2 c =
     let a = c .before .args in
-    let bit : 1 * 2 ^ a .n % 2 ^ 64 ≡ 2 ^ a .n = shl-exact 1 (a .n) 64 (omega arith) (omega arith) ∙ one-mul (2 ^ a .n) in
-    ap (ltb (a .mask)) bit
+    ap (ltb (a .mask)) (one-shifted (a .n) (omega arith))
 
 pub mask-fits-spec : {M : Type 1} → statement M
 mask-fits-spec = tie.close (tie.spec returns shl-result returns-2)

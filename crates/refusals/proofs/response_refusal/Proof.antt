@@ -20,32 +20,22 @@ returns c =
     itself here _ (c .if1 .taken)
 
 -- what is left of the refusal past the head
-head : (c : tie.Else1) → unfold responseRefusal in (let a = c .before .before .before .before .args in Beyond {r = responseRefusal (a .n) (a .t) (a .s .now)} _ _ refl)
+head : (c : tie.Else1) → unfold responseRefusal in (let a = c .before .before .before .before .args in Beyond {r = responseRefusal (a .n) (a .b) (a .s .now)} _ _ refl)
 unfolding responseRefusal
 head c =
     let here = rw (c .before .before .response-length .ensures) at (c .before .head-refusal .ensures) in
     beyond here _ refl (c .if1 .left)
-
-batch-requires : tie.Need-batch-requires
-batch-requires c κs = search needs
-
-cast-all-scalars : tie.Need-cast-all-scalars
-cast-all-scalars c = search needs
 
 all-scalars-requires : tie.Need-all-scalars-requires
 all-scalars-requires c κs = search needs
 
 returns-2 : tie.Need-returns-2
 unfolding responseRefusal
-returns-2 c =
-    let here = rw (c .before .before .batch .ensures) at (c .before .all-scalars .ensures) in
-    test-number _ _ _ (head (c .before .before .before)) (fails here (c .if2 .taken))
+returns-2 c = test-number _ _ _ (head (c .before .before)) (fails (c .before .all-scalars .ensures) (c .if2 .taken))
 
 returns-3 : tie.Need-returns-3
 unfolding responseRefusal
-returns-3 c =
-    let here = rw (c .before .before .batch .ensures) at (c .before .all-scalars .ensures) in
-    sym (left _ _ _ (head (c .before .before .before)) (holds here (c .if2 .left)))
+returns-3 c = sym (left _ _ _ (head (c .before .before)) (holds (c .before .all-scalars .ensures) (c .if2 .left)))
 
 pub response-refusal-spec : {M : Type 1} → statement M
 response-refusal-spec =
@@ -54,8 +44,6 @@ response-refusal-spec =
     response-length-requires
     head-refusal-requires
     returns
-    batch-requires
-    cast-all-scalars
     all-scalars-requires
     returns-2
     returns-3)

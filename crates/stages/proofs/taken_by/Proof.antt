@@ -54,10 +54,35 @@ unfolding handlerAt atStage takenAt decoded
 returns-12 c = rw (c .before .match .keys6, ne-eqb _ _ (c .match7 .rest .1))
 
 returns-13 : tie.Need-returns-13
+unfolding handlerAt atStage takenAt decoded
+returns-13 c = rw (c .before .match .keys7, c .match8 .keys1)
+
+returns-14 : tie.Need-returns-14
+unfolding handlerAt atStage takenAt decoded
+returns-14 c = rw (c .before .match .keys7, ne-eqb _ _ (c .match8 .rest .1))
+
+returns-15 : tie.Need-returns-15
+unfolding handlerAt atStage takenAt decoded
+returns-15 c = rw (c .before .match .keys8, c .match9 .keys1)
+
+returns-16 : tie.Need-returns-16
+unfolding handlerAt atStage takenAt decoded
+returns-16 c = rw (c .before .match .keys8, ne-eqb _ _ (c .match9 .rest .1))
+
+returns-17 : tie.Need-returns-17
 unfolding handlerAt decoded
-returns-13 c =
+returns-17 c =
     let none = c .match .rest in
-    rw (ne-eqb _ _ (none .0 .0 .0 .0 .0 .1), ne-eqb _ _ (none .0 .0 .0 .0 .1), ne-eqb _ _ (none .0 .0 .0 .1), ne-eqb _ _ (none .0 .0 .1), ne-eqb _ _ (none .0 .1), ne-eqb _ _ (none .1))
+    rw (
+      ne-eqb _ _ (none .0 .0 .0 .0 .0 .0 .0 .1),
+      ne-eqb _ _ (none .0 .0 .0 .0 .0 .0 .1),
+      ne-eqb _ _ (none .0 .0 .0 .0 .0 .1),
+      ne-eqb _ _ (none .0 .0 .0 .0 .1),
+      ne-eqb _ _ (none .0 .0 .0 .1),
+      ne-eqb _ _ (none .0 .0 .1),
+      ne-eqb _ _ (none .0 .1),
+      ne-eqb _ _ (none .1),
+    )
 
 pub taken-by-spec : {M : Type 1} → statement M
 taken-by-spec =
@@ -75,4 +100,8 @@ taken-by-spec =
     returns-10
     returns-11
     returns-12
-    returns-13)
+    returns-13
+    returns-14
+    returns-15
+    returns-16
+    returns-17)

@@ -5,7 +5,7 @@ use borrow.Author.Tests.{not-true, not-false}
 use native.Mathlib.Omega.{arith}
 use mathlib.Core.Path.{_≡_, refl, sym, ap, ap₂, _∙_}
 use mathlib.Core.Bool.{Bool, true, false, and-false}
-use Prim.Native.Nat.{ℕ, _+_, _-_, _≤_}
+use Prim.Native.Nat.{ℕ, _+_, _-_, _≤_, _<_}
 use lib.ListN.{length}
 use Rattle.lists.specs.Tests.{allTo}
 use Rattle.lists.specs.TestLaws.{all-next, fails-stays}
@@ -13,9 +13,9 @@ use Rattle.field.specs.Definitions.{scalar, generator, product, raise, sameElem
 use Rattle.interpolation.specs.PointLaws.{party-is}
 use Rattle.rows.specs.Definitions.{sumOf, productOf}
 use Rattle.rows.specs.TurnLaws.{first, product-none, product-next}
-use Rattle.parameters.specs.Definitions.{mostParties, batch}
+use Rattle.parameters.specs.Definitions.{mostParties}
 use Rattle.records.specs.Bytes.{word, sender}
-use Rattle.parameters.specs.ParameterLaws.{bounds-of, quorum-max, batch-max}
+use Rattle.parameters.specs.ParameterLaws.{bounds-of, quorum-max}
 use Rattle.protocol.specs.Transcript.{passes}
 use Rattle.combination.specs.Combination.{powersAt}
 use Rattle.arrays.specs.ArrayLaws.{elements-length}
@@ -26,57 +26,57 @@ use Rattle.verification.proofs.row_passes.Statement.{statement}
 use Rattle.verification.proofs.row_passes.Tie as tie
 
 abbrev Inv-loop : tie.InvT-loop
-Inv-loop setup bytes numbers qual quorum key at-slots at-points powers passed u values image₀ v₀ u-end image v =
+Inv-loop b setup bytes numbers qual quorum key at-slots at-points powers passed u values image₀ v₀ image v =
     (v ≤ quorum) × (image ≡ productOf (first v at-points) values)
 
 abbrev μ-loop : tie.MeasureT-loop
-μ-loop setup bytes numbers qual quorum key at-slots at-points powers passed u values image₀ v₀ u-end image v =
+μ-loop b setup bytes numbers qual quorum key at-slots at-points powers passed u values image₀ v₀ image v =
     quorum - v
 
 abbrev Inv-row : tie.InvT-row
-Inv-row setup bytes numbers qual quorum key at-slots at-points powers₀ passed₀ u₀ u-end powers passed u =
-    (u ≤ u-end) × (u-end ≤ mostParties) × (quorum ≤ mostParties) × (passed ≡ true)
+Inv-row b setup bytes numbers qual quorum key at-slots at-points powers₀ passed₀ u₀ powers passed u =
+    (u ≤ b) × (b < 256) × (quorum ≤ mostParties) × (passed ≡ true)
     × (powers ≡ powersAt (setup .n) powers₀ u)
     × (allTo u (fits setup powers₀ numbers qual quorum key at-slots at-points bytes) ≡ true)
 
 abbrev μ-row : tie.MeasureT-row
-μ-row setup bytes numbers qual quorum key at-slots at-points powers₀ passed₀ u₀ u-end powers passed u = u-end - u
+μ-row b setup bytes numbers qual quorum key at-slots at-points powers₀ passed₀ u₀ powers passed u = b - u
 
 -- ---- what is known before the rows
 
-abbrev start : tie.After-batch Inv-loop μ-loop Inv-row μ-row → tie.Start Inv-loop μ-loop Inv-row μ-row
-start b = b .before .before .before .before .before .before .before .before .before .before .before .before .before
+abbrev start : tie.After-powers Inv-loop μ-loop Inv-row μ-row → tie.Start Inv-loop μ-loop Inv-row μ-row
+start b = b .before .before .before .before .before .before .before .before .before .before .before .before
 
-abbrev points : tie.After-batch Inv-loop μ-loop Inv-row μ-row → tie.After-committed-points Inv-loop μ-loop Inv-row μ-row
-points b = b .before .before .before
+abbrev points : tie.After-powers Inv-loop μ-loop Inv-row μ-row → tie.After-committed-points Inv-loop μ-loop Inv-row μ-row
+points b = b .before .before
 
 -- the code's test of a number
-abbrev fits-of : tie.After-batch Inv-loop μ-loop Inv-row μ-row → ℕ → Bool
+abbrev fits-of : tie.After-powers Inv-loop μ-loop Inv-row μ-row → ℕ → Bool
 fits-of b =
     let w = points b .before in
     let key = w .before .before in
     let q = key .before .before .before in
     let a = start b .args in
-    fits (a .setup) (a .dealings .commitments) (a .challenges .numbers) (q .before .unblamed .result) (q .quorum .result) (key .key-at .result) (w .weights .result) (b .before .before .weights2 .result) (a .bytes .now)
+    fits (a .setup) (a .dealings .commitments) (a .challenges .numbers) (q .before .unblamed .result) (q .quorum .result) (key .key-at .result) (w .weights .result) (b .before .weights2 .result) (a .bytes .now)
 
 -- it is that of the definition
-tested : (b : tie.After-batch Inv-loop μ-loop Inv-row μ-row)
+tested : (b : tie.After-powers Inv-loop μ-loop Inv-row μ-row)
     → let a = start b .args in
     let s = a .bytes .now in
-    allTo (b .batch .result) (fits-of b) ≡ allTo (batch (a .setup .n) (a .setup .t)) (λ i. passes (transcript (a .setup) (a .dealings) (a .complaints) (a .challenges)) (i + 1) (sender s) (scalar (word s 4 i)))
+    allTo (a .b) (fits-of b) ≡ allTo (a .b) (λ i. passes (transcript (a .setup) (a .dealings) (a .complaints) (a .challenges)) (i + 1) (sender s) (scalar (word s 4 i)))
 tested b =
     let w = points b .before in
     let key = w .before .before in
     let at = key .before in
     let q = at .before .before in
     let a = start b .args in
-    row-tested (a .setup) (a .dealings) (a .complaints) (a .challenges) (bounds-of _ _ _ (start b .pre)) (a .bytes .now) (at .before .byte .ensures) (at .point .ensures ∙ sym (party-is _)) (q .before .unblamed .ensures)
-    (q .quorum .ensures) (key .key-at .ensures) (w .before .slot-points .ensures) (w .weights .ensures) (points b .committed-points .ensures) (b .before .before .weights2 .ensures) (b .batch .ensures)
+    row-tested (a .setup) (a .dealings) (a .complaints) (a .challenges) (bounds-of _ _ _ (start b .pre)) (a .bytes .now) (a .b) (at .before .byte .ensures) (at .point .ensures ∙ sym (party-is _)) (q .before .unblamed .ensures)
+    (q .quorum .ensures) (key .key-at .ensures) (w .before .slot-points .ensures) (w .weights .ensures) (points b .committed-points .ensures) (b .before .weights2 .ensures)
 
 -- the weights are as many as the committed points
-all-points : (b : tie.After-batch Inv-loop μ-loop Inv-row μ-row) → points b .before .before .before .before .before .before .quorum .result ≤ 64
-    → first (points b .before .before .before .before .before .before .quorum .result) (b .before .before .weights2 .result) ≡ b .before .before .weights2 .result
-all-points b l = all-weights _ _ _ l (points b .committed-points .ensures) (b .before .before .weights2 .ensures)
+all-points : (b : tie.After-powers Inv-loop μ-loop Inv-row μ-row) → points b .before .before .before .before .before .before .quorum .result ≤ 64
+    → first (points b .before .before .before .before .before .before .quorum .result) (b .before .weights2 .result) ≡ b .before .weights2 .result
+all-points b l = all-weights _ _ _ l (points b .committed-points .ensures) (b .before .weights2 .ensures)
 
 -- there are 64 combined values, of which the first are used
 sixty-four : (c : tie.After-combined-values Inv-loop μ-loop Inv-row μ-row) → length (c .combined-values .result) ≡ 64
@@ -104,7 +104,7 @@ compared c =
     let sent = c .before .pow3 .ensures ∙ ap (λ (x : ℕ). raise generator (scalar x)) (c .before .before .word .ensures) in
     let image =
     l .loop .inv .1
-    ∙ ap (λ (n : ℕ). productOf (first n (b .before .before .weights2 .result)) (l .before .combined-values .result)) end
+    ∙ ap (λ (n : ℕ). productOf (first n (b .before .weights2 .result)) (l .before .combined-values .result)) end
     ∙ ap₂ productOf (all-points b (omega (arith, r .row .inv .2))) (combined-powers _ _ _ (r .row .u + 1) _ (omega (arith, r .row .inv .2)) (omega arith) (r .row .inv .4) (l .before .combined-values .ensures)) in
     let power = m .before .pow2 .ensures ∙ ap (raise (key .key-at .result)) (m .before .before .sum .ensures ∙ ap (sumOf (points b .before .weights .result)) (e .challenge-values .ensures)) in
     c .same .ensures ∙ ap₂ sameElement sent (m .mul2 .ensures ∙ ap₂ product image power)
@@ -142,21 +142,19 @@ committed-points-requires c κs = search needs
 weights-requires-2 : tie.Need-weights-requires-2 Inv-loop μ-loop Inv-row μ-row
 weights-requires-2 c κs = search needs
 
-batch-requires : tie.Need-batch-requires Inv-loop μ-loop Inv-row μ-row
-batch-requires c κs = search needs
-
 row-holds : tie.Need-row-holds Inv-loop μ-loop Inv-row μ-row
 unfolding allTo
 row-holds c =
-    let bounds = bounds-of _ _ _ (start c .pre) in
+    let s = start c in
+    let bounds = bounds-of _ _ _ (s .pre) in
     let need = points c .before .before .before .before .before .before .quorum .ensures in
-    (omega arith, omega (arith, c .batch .ensures, batch-max bounds), omega (arith, need, quorum-max bounds), refl, powers-none _ _, refl)
+    (omega arith, omega arith, omega (arith, need, quorum-max bounds), refl, powers-none _ _, refl)
 
 combined-values-requires : tie.Need-combined-values-requires Inv-loop μ-loop Inv-row μ-row
 combined-values-requires c κs = search needs
 
 loop-holds : tie.Need-loop-holds Inv-loop μ-loop Inv-row μ-row
-loop-holds c = (omega arith, sym (product-none (c .before .before .before .before .before .weights2 .result) (c .combined-values .result)))
+loop-holds c = (omega arith, sym (product-none (c .before .before .before .before .weights2 .result) (c .combined-values .result)))
 
 cast-value : tie.Need-cast-value Inv-loop μ-loop Inv-row μ-row
 cast-value c = search needs
@@ -194,7 +192,7 @@ loop-again c =
     let b = l .before .before .before .before in (
       omega arith,
       c .mul .ensures ∙ ap₂ product (l .loop .inv .1) (c .before .pow .ensures)
-          ∙ sym (product-next (b .before .before .weights2 .result) (l .before .combined-values .result) (l .loop .v) _ (omega arith) (omega (arith, sixty-four (l .before)))),
+          ∙ sym (product-next (b .before .weights2 .result) (l .before .combined-values .result) (l .loop .v) _ (omega arith) (omega (arith, sixty-four (l .before)))),
     )
 
 add-challenge-values : tie.Need-add-challenge-values Inv-loop μ-loop Inv-row μ-row
@@ -249,7 +247,7 @@ row-again c =
 returns : tie.Need-returns Inv-loop μ-loop Inv-row μ-row
 returns c =
     let r = c .before in
-    let end : r .row .u ≡ r .before .batch .result = omega arith in
+    let end : r .row .u ≡ start (r .before) .args .b = omega arith in
     r .row .inv .3 ∙ sym (rw end at (r .row .inv .5)) ∙ tested (r .before)
 
 returns-2 : tie.Need-returns-2 Inv-loop μ-loop Inv-row μ-row
@@ -257,7 +255,7 @@ returns-2 c =
     let r = turn (c .before) .before in
     let bad = sym (compared (c .before)) ∙ not-true _ (c .if1 .taken) in
     let fails : allTo (r .row .u + 1) (fits-of (r .before)) ≡ false = all-next (r .row .u) (fits-of (r .before)) ∙ rw (bad, and-false) in
-    sym (fails-stays (fits-of (r .before)) (r .row .u + 1) (r .before .batch .result) (omega (arith, turn (c .before) .row-test .taken)) fails) ∙ tested (r .before)
+    sym (fails-stays (fits-of (r .before)) (r .row .u + 1) (start (r .before) .args .b) (omega (arith, turn (c .before) .row-test .taken)) fails) ∙ tested (r .before)
 
 pub row-passes-spec : {M : Type 1} → statement M
 row-passes-spec =
@@ -277,7 +275,6 @@ row-passes-spec =
     weights-requires
     committed-points-requires
     weights-requires-2
-    batch-requires
     row-holds
     combined-values-requires
     loop-holds

@@ -2,7 +2,7 @@
 use mathlib.Core.Path.{_≡_, ap, ap₂, fun-ext, _∙_}
 use mathlib.Core.Bool.{Bool, true}
 use mathlib.Core.List.{List}
-use Prim.Native.Nat.{ℕ, _+_, _*_, _-_, _≤_}
+use Prim.Native.Nat.{ℕ, _+_, _*_, _-_, _≤_, _<_}
 use native.Mathlib.Omega.{arith}
 use borrow.Author.Needs.{needs}
 use lib.ListN.{length}
@@ -14,7 +14,6 @@ use Rattle.rows.specs.declared.Row.{Row}
 use Rattle.interpolation.specs.Definitions.{point, party, slot}
 use Rattle.interpolation.specs.PointLaws.{party-is}
 use Rattle.rows.specs.Definitions.{listed, weightsOf, sumOf}
-use Rattle.parameters.specs.Definitions.{batch}
 use Rattle.encoding.specs.Bytes.{fours}
 use Rattle.encoding.specs.StoreLaws.{Put, put-none, put-next}
 use Rattle.protocol.specs.Transcript.{challengeAt}
@@ -54,17 +53,10 @@ number-is r j key shares f q p x w u =
 
 abbrev Inv-loop : tie.InvT-loop
 Inv-loop out₀ j key shares n a count qual challenges weights u₀ out u =
-    (u ≤ count) × Put out₀ 4 (λ k. number n a qual challenges weights key shares (k + 1) .0) u out
+    (u ≤ count) × (count < 256) × Put out₀ 4 (λ k. number n a qual challenges weights key shares (k + 1) .0) u out
 
 abbrev μ-loop : tie.MeasureT-loop
 μ-loop out₀ j key shares n a count qual challenges weights u₀ out u = count - u
-
--- the buffer has room for count numbers
-room : (c : tie.After-batch Inv-loop μ-loop) → 4 + 4 * c .batch .result ≤ length (c .before .before .before .args .out .now)
-room c = omega (arith, c .batch .ensures, c .before .before .before .pre .2)
-
-batch-requires : tie.Need-batch-requires Inv-loop μ-loop
-batch-requires c κs = search needs
 
 unblamed-requires : tie.Need-unblamed-requires Inv-loop μ-loop
 unblamed-requires c κs = search needs
@@ -79,7 +71,7 @@ weights-requires : tie.Need-weights-requires Inv-loop μ-loop
 weights-requires c κs = search needs
 
 loop-holds : tie.Need-loop-holds Inv-loop μ-loop
-loop-holds c = (omega arith, put-none _ _ _)
+loop-holds c = (omega arith, omega arith, put-none _ _ _)
 
 add-combined-share : tie.Need-add-combined-share Inv-loop μ-loop
 add-combined-share c = search needs
@@ -109,10 +101,10 @@ mul-put : tie.Need-mul-put Inv-loop μ-loop
 mul-put c = omega arith
 
 add-put : tie.Need-add-put Inv-loop μ-loop
-add-put c = omega (arith, room (c .before .before .before .before .before .before .before .before .before .before .before .before .before))
+add-put c = omega (arith, c .before .before .before .before .before .before .before .before .before .before .before .before .before .before .before .pre .2)
 
 put-requires : tie.Need-put-requires Inv-loop μ-loop
-put-requires c κs = omega (arith, room (c .before .before .before .before .before .before .before .before .before .before .before .before .before))
+put-requires c κs = omega (arith, c .before .before .before .before .before .before .before .before .before .before .before .before .before .before .before .pre .2)
 
 add-u : tie.Need-add-u Inv-loop μ-loop
 add-u c = search needs
@@ -126,26 +118,25 @@ loop-again c =
     let s = p .before .before in
     let shared = s .before .before .before .before in
     let l = shared .before .before .loop in
-    let a = shared .before .before .before .before .before .before .before .before .before .before .before .args in
+    let a = shared .before .before .before .before .before .before .before .before .before .before .args in
     let made =
     number-made (a .run .setup .n) (a .run .setup .a) _ (a .run .challenges .numbers) _ (a .key) (a .shares .now) (l .u + 1)
     (shared .combined-share .ensures) (s .before .before .before .challenge-values .ensures) (s .before .before .sum .ensures) (s .before .mul .ensures) (s .add .ensures) in
-    (omega arith, put-next _ _ _ (l .u) (l .inv .1) (ap (λ (x : Scalar). x .0) made) (p .put .ensures))
+    (omega arith, l .inv .1, put-next _ _ _ (l .u) (l .inv .2) (ap (λ (x : Scalar). x .0) made) (p .put .ensures))
 
 same-length : tie.Need-same-length Inv-loop μ-loop
-same-length c = c .before .loop .inv .1 .0
+same-length c = c .before .loop .inv .2 .0
 
 returns : tie.Need-returns Inv-loop μ-loop
 returns c =
     let l = c .before .loop in
     let o = c .before .before in
     let q = o .before .before .before .before in
-    let b = q .before in
-    let begin = b .before .before .before in
+    let begin = q .before .before .before in
     let a = begin .args in
-    let end : l .u ≡ batch (a .run .setup .n) (a .run .setup .t) = omega (arith, b .batch .ensures) in
-    (rw end at (l .inv .1 .1))
-    ∙ ap (λ (f : ℕ → ℕ). sets (a .out .now) 4 (fours (batch (a .run .setup .n) (a .run .setup .t)) f))
+    let end : l .u ≡ a .run .b = omega arith in
+    (rw end at (l .inv .2 .1))
+    ∙ ap (λ (f : ℕ → ℕ). sets (a .out .now) 4 (fours (a .run .b) f))
     (fun-ext (λ k. ap (λ (x : Scalar). x .0) (number-is (a .run) (a .j) (a .key) (a .shares .now) (begin .pre .0) (q .unblamed .ensures) (o .before .before .slot-points .ensures) (o .before .point .ensures) (o .weights .ensures) (k + 1))))
 
 pub put-responses-spec : {M : Type 1} → statement M
@@ -154,7 +145,6 @@ put-responses-spec =
     (tie.spec
     Inv-loop
     μ-loop
-    batch-requires
     unblamed-requires
     slot-points-requires
     point-requires

@@ -61,7 +61,7 @@ response-length-requires c κs = search needs
 
 -- all but the room is settled
 settled : (c : tie.After-response-length) → let a = c .before .before .before .before .before .before .before .before .args in
-    require (eqb (a .room) (responseLength (a .run .setup .n) (a .run .setup .t))) 9 0 ≡ sharesRefused (a .run) (a .key) (a .shares .now) (a .room)
+    require (eqb (a .room) (responseLength (a .run .b))) 9 0 ≡ sharesRefused (a .run) (a .key) (a .shares .now) (a .room)
 unfolding sharesRefused require
 settled c =
     let scalars = c .before in

@@ -6,7 +6,6 @@ use native.Mathlib.Omega.{arith}
 use borrow.Author.Needs.{needs}
 use borrow.Author.Tests.{ne-eqb}
 use lib.ListN.{length, length-set}
-use Rattle.parameters.specs.Definitions.{batch}
 use Rattle.records.specs.Tags.{letterE, letterR, responseLength}
 use Rattle.encoding.specs.Bytes.{fours}
 use Rattle.encoding.specs.ByteLaws.{length-fours}
@@ -22,7 +21,7 @@ known c =
     let a = c .before .before .before .before .args in
     response-fits (a .run) (a .j) (a .key) (a .shares .now) (length (a .out .now)) (sym (c .before .response-refused .ensures) ∙ c .if1 .left)
 
-room : (c : tie.Else1) → let a = c .before .before .before .before .args in length (a .out .now) ≡ 4 + 4 * batch (a .run .setup .n) (a .run .setup .t)
+room : (c : tie.Else1) → let a = c .before .before .before .before .args in length (a .out .now) ≡ 4 + 4 * a .run .b
 unfolding responseLength
 room c = known c .exact
 
@@ -58,7 +57,7 @@ returns-2 c =
     let p = c .before .before in
     let e = p .before .before in
     let a = e .before .before .before .before .args in
-    let m = batch (a .run .setup .n) (a .run .setup .t) in
+    let m = a .run .b in
     let number : ℕ → ℕ = λ u. responseFor (a .run) (a .j) (a .key) (a .shares .now) (u + 1) .0 in (
       sym (e .if1 .left) ∙ e .before .response-refused .ensures,
       p .put-responses .ensures ∙ sets-whole (a .out .now) (letterR ∷ letterE ∷ a .j ∷ 0 ∷ []) (fours m number) (omega (arith, room e, length-fours m number)),

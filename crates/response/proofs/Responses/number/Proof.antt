@@ -43,7 +43,7 @@ has-requires-2 c κs = search needs
 held : (c : tie.After-has2) (last : ℕ) → let a = c .before .before .before .before .before .before .before .args in
     let s = a .bytes .now in
     require (c .has2 .result) 14 last
-    ≡ orNext (responseRefusal (a .setup .n) (a .setup .t) s)
+    ≡ orNext (responseRefusal (a .setup .n) (a .b) s)
     (require (not (has (a .self .responders) (sender s))) 12 (require (has (a .complaints .holders) (sender s)) 14 last))
 held c last =
     let first = c .before in
@@ -62,7 +62,7 @@ row-passes-requires c κs = search needs
 
 -- what is left of the number
 left : (c : tie.After-row-passes) → let a = c .before .before .before .before .before .before .before .before .before .args in
-    require (c .row-passes .result) 15 0 ≡ responseNumber (a .setup) (a .dealings) (a .complaints) (a .challenges) (a .self) (a .bytes .now)
+    require (c .row-passes .result) 15 0 ≡ responseNumber (a .b) (a .setup) (a .dealings) (a .complaints) (a .challenges) (a .self) (a .bytes .now)
 unfolding responseNumber
 left c = rw (c .row-passes .ensures) (sym (require-true _ 14 _ (not-false _ (c .before .if3 .left))) ∙ held (c .before .before) _)
 

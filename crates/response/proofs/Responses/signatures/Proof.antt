@@ -8,8 +8,8 @@ use Rattle.lists.specs.Stores.{stored}
 use Rattle.field.specs.declared.Scalar.{Scalar}
 use Rattle.field.specs.Definitions.{plus}
 use Rattle.rows.specs.Definitions.{basisOf}
-use Rattle.parameters.specs.Definitions.{mostParties, cells, batch}
-use Rattle.parameters.specs.ParameterLaws.{bounds-of, key-max, batch-max, cells-max}
+use Rattle.parameters.specs.Definitions.{mostParties, cells}
+use Rattle.parameters.specs.ParameterLaws.{bounds-of, key-max, cells-max}
 use Rattle.arrays.specs.Arrays.{memberPoints}
 use Rattle.dealing.specs.declared.Setup.{Setup}
 use Rattle.response.specs.declared.Responses.{Responses}
@@ -23,14 +23,14 @@ abbrev cell : Setup → Scalar → Responses → ℕ → Scalar
 cell setup shift p x = shiftedPhiOf (setup .n) shift p (x / setup .a + 1) (x % setup .a + 1)
 
 abbrev Inv-loop : tie.InvT-loop
-Inv-loop self setup shift a basis signatures₀ count x₀ signatures x =
+Inv-loop self b setup shift a basis signatures₀ count x₀ signatures x =
     (basis ≡ basisOf (memberPoints (setup .n) (self .responders))) × (x ≤ count) × (0 < a) × (a ≤ mostParties) × (count ≤ mostParties * a) × (count ≤ cells) × (signatures ≡ stored signatures₀ 0 x (cell setup shift self))
 
 abbrev μ-loop : tie.MeasureT-loop
-μ-loop self setup shift a basis signatures₀ count x₀ signatures x = count - x
+μ-loop self b setup shift a basis signatures₀ count x₀ signatures x = count - x
 
 -- u is at most the number of parties
-few : (c : tie.In-loop Inv-loop μ-loop) → c .before .loop .x / c .before .before .before .before .before .args .setup .a < mostParties
+few : (c : tie.In-loop Inv-loop μ-loop) → c .before .loop .x / c .before .before .before .before .args .setup .a < mostParties
 few c = div-lt-iff-lt-mul (c .before .loop .inv .2) .1 (omega arith)
 
 member-points-requires : tie.Need-member-points-requires Inv-loop μ-loop
@@ -42,25 +42,19 @@ basis-requires c κs = search needs
 cast-count : tie.Need-cast-count Inv-loop μ-loop
 cast-count c = search needs
 
-batch-requires : tie.Need-batch-requires Inv-loop μ-loop
-batch-requires c κs = search needs
-
-cast-count-2 : tie.Need-cast-count-2 Inv-loop μ-loop
-cast-count-2 c = search needs
-
 mul-count : tie.Need-mul-count Inv-loop μ-loop
 mul-count c =
-    let start = c .before .before .before in
-    rw (c .batch .ensures) (omega (arith, cells-max (bounds-of _ _ _ (start .pre))))
+    let start = c .before .before in
+    omega (arith, cells-max (bounds-of _ _ _ (start .pre .0)) (start .pre .1))
 
 loop-holds : tie.Need-loop-holds Inv-loop μ-loop
 unfolding stored
 loop-holds c =
-    let basis = c .before in
-    let start = basis .before .before in
-    let bounds = bounds-of _ _ _ (start .pre) in
-    let rows : start .args .setup .a * c .batch .result ≤ start .args .setup .a * mostParties = mul-le-mul (le-refl _) (omega (arith, c .batch .ensures, batch-max bounds)) in
-    (basis .basis .ensures ∙ ap basisOf (basis .before .member-points .ensures), omega arith, bounds .a-pos, omega (arith, key-max bounds), omega arith, rw (c .batch .ensures) (cells-max bounds), refl)
+    let start = c .before .before in
+    let bounds = bounds-of _ _ _ (start .pre .0) in
+    let few = start .pre .1 in
+    let rows : start .args .setup .a * start .args .b ≤ start .args .setup .a * mostParties = mul-le-mul (le-refl _) (omega arith) in
+    (c .basis .ensures ∙ ap basisOf (c .before .member-points .ensures), omega arith, bounds .a-pos, omega (arith, key-max bounds), omega arith, cells-max bounds few, refl)
 
 cast-u : tie.Need-cast-u Inv-loop μ-loop
 cast-u c = search needs
@@ -111,16 +105,15 @@ loop-again : tie.Need-loop-again Inv-loop μ-loop
 unfolding shiftedPhiOf
 loop-again c =
     let l = c .before .before .before .loop in
-    let a = c .before .before .before .before .before .before .before .args in
+    let a = c .before .before .before .before .before .before .args in
     let sum = c .add .ensures ∙ ap (λ (x : Scalar). plus x (a .shift)) (c .before .interpolated .ensures) in
     (l .inv .0, omega arith, l .inv .2, l .inv .3, l .inv .4, l .inv .5, load-in (a .list) 0 (l .x) (cell (a .setup) (a .shift) (a .self)) (l .inv .6) (omega arith) sum refl)
 
 returns : tie.Need-returns Inv-loop μ-loop
 unfolding signaturesOf
 returns c =
-    let b = c .before .before in
-    let a = b .before .before .before .args in
-    let end : c .before .loop .x ≡ a .setup .a * batch (a .setup .n) (a .setup .t) = rw (← b .batch .ensures) (omega arith) in
+    let a = c .before .before .before .before .args in
+    let end : c .before .loop .x ≡ a .setup .a * a .b = omega arith in
     loaded (a .list) 0 _ (cell (a .setup) (a .shift) (a .self)) (c .before .loop .inv .6) end
 
 pub signatures-spec : {M : Type 1} → statement M
@@ -132,8 +125,6 @@ signatures-spec =
     member-points-requires
     basis-requires
     cast-count
-    batch-requires
-    cast-count-2
     mul-count
     loop-holds
     cast-u

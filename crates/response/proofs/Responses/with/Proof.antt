@@ -11,12 +11,6 @@ byte-requires c κs = search needs
 predecessor-requires : tie.Need-predecessor-requires
 predecessor-requires c κs = search needs
 
-batch-requires : tie.Need-batch-requires
-batch-requires c κs = search needs
-
-cast-count : tie.Need-cast-count
-cast-count c = search needs
-
 cast-load-numbers : tie.Need-cast-load-numbers
 cast-load-numbers c = search needs
 
@@ -39,9 +33,8 @@ returns : tie.Need-returns
 unfolding withResponse base
 returns c =
     let loaded = c .before .before in
-    let batch = loaded .before in
-    let place = batch .before .before in
-    rw (c .insert .ensures, loaded .load-numbers .ensures, batch .batch .ensures, place .predecessor .ensures, place .before .byte .ensures)
+    let place = loaded .before .before in
+    rw (c .insert .ensures, loaded .load-numbers .ensures, place .predecessor .ensures, place .before .byte .ensures)
 
 pub with-spec : {M : Type 1} → statement M
 with-spec =
@@ -49,8 +42,6 @@ with-spec =
     (tie.spec
     byte-requires
     predecessor-requires
-    batch-requires
-    cast-count
     cast-load-numbers
     cast-load-numbers-2
     mul-load-numbers

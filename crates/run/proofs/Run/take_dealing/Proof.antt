@@ -1,17 +1,12 @@
 -- `Run::take_dealing` meets its contract. Assumes nothing.
 use borrow.Author.Needs.{needs}
-use borrow.Author.Tests.{eq-eqb, ne-eqb}
 use native.Mathlib.Omega.{arith}
-use mathlib.Core.Logic.{⊎-elim}
-use mathlib.Core.Path.{_≡_, ap, ap₂, sym, _∙_}
-use Prim.Native.Nat.{_+_, _-_}
-use lib.Dec.{eqb}
-use Rattle.lists.specs.Tests.{pick}
+use mathlib.Core.Path.{ap, ap₂, sym, _∙_}
 use Rattle.lists.specs.TestLaws.{or-next}
 use Rattle.parameters.specs.ParameterLaws.{bounds-test}
 use Rattle.refusals.specs.RefusalLaws.{dealing-passed}
 use Rattle.dealing.specs.declared.Dealings.{Dealings}
-use Rattle.dealing.specs.Definitions.{dealingNumber, withDealing}
+use Rattle.dealing.specs.Definitions.{dealingNumber, withDealing, dealingStage}
 use Rattle.run.specs.Runs.{setDealings}
 use Rattle.run.specs.Steps.{afterDealing}
 use Rattle.run.specs.RunLaws.{formed-of}
@@ -37,28 +32,23 @@ with-requires c κs =
     let none = or-next _ _ (sym (c .before .number .ensures) ∙ c .if1 .left) .0 in
     (bounds-test (formed .bounds), omega arith, dealing-passed (r .setup .n) (r .setup .t) (r .setup .a) (start .args .bytes .now) none .sender-max)
 
-sub-if2 : tie.Need-sub-if2
-sub-if2 c =
-    let start = c .before .before .before .before .before .before .before in
+dealing-stage-requires : tie.Need-dealing-stage-requires
+dealing-stage-requires c κs =
+    let start = c .before .before .before .before .before .before in
     let bounds = formed-of (start .args .self) (start .pre) .bounds in
     omega (arith, bounds .enough)
 
 returns-2 : tie.Need-returns-2
 unfolding afterDealing withDealing
 returns-2 c =
-    let taken = c .before .before .before in
+    let taken = c .before in
     let passed = taken .before in
     let r = passed .before .before .before .before .before .args .self in
-    let more : taken .with .result .count ≡ r .dealings .count + 1 = ap (λ (d : Dealings). d .count) (taken .with .ensures) in
-    let stage : c .if2 .next ≡ pick (eqb (r .dealings .count + 1) (r .setup .n - r .setup .t)) 2 1 =
-    ⊎-elim
-    (λ w. w .1 ∙ rw (eq-eqb _ _ (sym more ∙ w .0 .taken)))
-    (λ w. w .1 ∙ rw (ne-eqb _ _ (λ e. w .0 .left (more ∙ e))))
-    (c .if2 .came) in
+    let stage = c .dealing-stage .ensures ∙ ap (λ (d : Dealings). dealingStage (r .setup .n) (r .setup .t) (d .count) (r .b)) (taken .with .ensures) in
     accepted-by (passed .before .number .ensures) _ (passed .if1 .left)
     (ap₂ (setDealings r) stage (taken .with .ensures))
 
 pub take-dealing-spec : {M : Type 1} → statement M
 take-dealing-spec =
     tie.close
-    (tie.spec number-requires answer-requires returns with-requires sub-if2 returns-2)
+    (tie.spec number-requires answer-requires returns with-requires dealing-stage-requires returns-2)

@@ -12,7 +12,7 @@ use Rattle.parameters.specs.ParameterLaws.{bounds-test}
 use Rattle.response.specs.declared.Responses.{Responses}
 use Rattle.run.specs.Runs.{setResponses}
 use Rattle.run.specs.Steps.{withRow, finished, afterResponse}
-use Rattle.run.specs.RunLaws.{formed-of}
+use Rattle.run.specs.RunLaws.{formed-of, formed-batch}
 use Rattle.run.proofs.Numbers.{refused-by, accepted-by}
 use Rattle.run.proofs.Run.take_response.Statement.{statement}
 use Rattle.run.proofs.Run.take_response.Tie as tie
@@ -46,7 +46,8 @@ quorum-requires c κs = search needs
 finish-requires : tie.Need-finish-requires
 finish-requires c κs =
     let start = c .before .before .before .before .before .before .before .before .before .before .before .before in
-    bounds-test (formed-of (start .args .self) (start .pre) .bounds)
+    let formed = formed-of (start .args .self) (start .pre) in
+    (bounds-test (formed .bounds), formed-batch formed)
 
 returns-2 : tie.Need-returns-2
 unfolding afterResponse withRow

@@ -1,6 +1,12 @@
 -- `Run::take_setup` meets its contract. Assumes nothing.
 use borrow.Author.Needs.{needs}
-use mathlib.Core.Path.{ap, _∙_}
+use mathlib.Core.Path.{sym, ap, ap₂, _∙_}
+use Prim.Native.Nat.{_-_}
+use native.Mathlib.Omega.{arith}
+use Rattle.parameters.specs.Definitions.{batch}
+use Rattle.refusals.specs.RefusalLaws.{setup-passed}
+use Rattle.dealing.specs.declared.Setup.{Setup}
+use Rattle.dealing.specs.Definitions.{setupOf, begunBatch}
 use Rattle.run.specs.Runs.{begun}
 use Rattle.run.specs.Steps.{afterSetup}
 use Rattle.run.proofs.Numbers.{refused-by, accepted-by}
@@ -22,11 +28,46 @@ read-requires c κs = search needs
 begun-requires : tie.Need-begun-requires
 begun-requires c κs = search needs
 
+answer-requires-2 : tie.Need-answer-requires-2
+answer-requires-2 c κs = search needs
+
+-- the run of an SX waits
 returns-2 : tie.Need-returns-2
-unfolding afterSetup
+unfolding afterSetup begunBatch
 returns-2 c =
-    let passed = c .before .before in
-    accepted-by (passed .before .setup-refusal .ensures) _ (passed .if1 .left) (c .begun .ensures ∙ ap (begun 1) (c .before .read .ensures))
+    let setup = c .before .before .before in
+    let passed = setup .before in
+    c .answer2 .ensures
+    ∙ rw (c .before .before .if2 .taken) (accepted-by (passed .before .setup-refusal .ensures) _ (passed .if1 .left) (c .before .begun .ensures ∙ ap (begun 1 0) (setup .read .ensures)))
+
+-- n is at least t
+sub-batch : tie.Need-sub-batch
+unfolding setupOf
+sub-batch c =
+    let setup = c .before .before in
+    let passed = setup .before in
+    let bounds = setup-passed (passed .before .before .before .args .bytes .now) (sym (passed .before .setup-refusal .ensures) ∙ passed .if1 .left) .bounds in
+    rw (setup .read .ensures) (omega (arith, bounds .enough))
+
+batch-requires : tie.Need-batch-requires
+batch-requires c κs = search needs
+
+begun-requires-2 : tie.Need-begun-requires-2
+begun-requires-2 c κs = search needs
+
+answer-requires-3 : tie.Need-answer-requires-3
+answer-requires-3 c κs = search needs
+
+returns-3 : tie.Need-returns-3
+unfolding afterSetup begunBatch
+returns-3 c =
+    let b = c .before .before in
+    let else = b .before .before in
+    let setup = else .before in
+    let passed = setup .before in
+    c .answer3 .ensures
+    ∙ rw (else .if2 .left) (accepted-by (passed .before .setup-refusal .ensures) _ (passed .if1 .left)
+    (c .before .begun2 .ensures ∙ ap₂ (begun 1) (b .batch .ensures ∙ ap (λ (x : Setup). batch (x .n - x .t) (x .t)) (setup .read .ensures)) (setup .read .ensures)))
 
 pub take-setup-spec : {M : Type 1} → statement M
 take-setup-spec =
@@ -37,4 +78,10 @@ take-setup-spec =
     returns
     read-requires
     begun-requires
-    returns-2)
+    answer-requires-2
+    returns-2
+    sub-batch
+    batch-requires
+    begun-requires-2
+    answer-requires-3
+    returns-3)

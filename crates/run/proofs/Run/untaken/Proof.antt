@@ -38,6 +38,12 @@ setup-refusal-requires c κs = search needs
 enum-told-2 : tie.Need-enum-told-2
 enum-told-2 c = search needs
 
+setup-refusal-requires-2 : tie.Need-setup-refusal-requires-2
+setup-refusal-requires-2 c κs = search needs
+
+enum-told-3 : tie.Need-enum-told-3
+enum-told-3 c = search needs
+
 dealing-refusal-requires : tie.Need-dealing-refusal-requires
 dealing-refusal-requires c κs = search needs
 
@@ -47,8 +53,14 @@ has-requires c κs = search needs
 or-next-requires : tie.Need-or-next-requires
 or-next-requires c κs = search needs
 
-enum-told-3 : tie.Need-enum-told-3
-enum-told-3 c = search needs
+enum-told-4 : tie.Need-enum-told-4
+enum-told-4 c = search needs
+
+go-number-requires : tie.Need-go-number-requires
+go-number-requires c κs = search needs
+
+enum-told-5 : tie.Need-enum-told-5
+enum-told-5 c = search needs
 
 complaint-refusal-requires : tie.Need-complaint-refusal-requires
 complaint-refusal-requires c κs = search needs
@@ -59,20 +71,20 @@ has-requires-2 c κs = search needs
 or-next-requires-2 : tie.Need-or-next-requires-2
 or-next-requires-2 c κs = search needs
 
-enum-told-4 : tie.Need-enum-told-4
-enum-told-4 c = search needs
+enum-told-6 : tie.Need-enum-told-6
+enum-told-6 c = search needs
 
 challenges-refusal-requires : tie.Need-challenges-refusal-requires
 challenges-refusal-requires c κs = search needs
 
-enum-told-5 : tie.Need-enum-told-5
-enum-told-5 c = search needs
+enum-told-7 : tie.Need-enum-told-7
+enum-told-7 c = search needs
 
 shifted-refusal-requires : tie.Need-shifted-refusal-requires
 shifted-refusal-requires c κs = search needs
 
-enum-told-6 : tie.Need-enum-told-6
-enum-told-6 c = search needs
+enum-told-8 : tie.Need-enum-told-8
+enum-told-8 c = search needs
 
 response-refusal-requires : tie.Need-response-refusal-requires
 response-refusal-requires c κs = search needs
@@ -97,45 +109,53 @@ unfolding untakenBy
 returns c = c .setup-refusal .ensures ∙ answer (c .before .before .before) (c .before .enum-told .given .1)
 
 returns-2 : tie.Need-returns-2
-unfolding untakenBy dealingNumber
-returns-2 c =
-    let refusal = c .before .before in
-    let told = refusal .before in
-    let taken = told .before .before in
-    c .or-next .ensures
-    ∙ rw (refusal .dealing-refusal .ensures, c .before .has .ensures, taken .before .before .before .byte .ensures) (answer taken (told .enum-told2 .given .1))
+unfolding untakenBy
+returns-2 c = c .setup-refusal2 .ensures ∙ answer (c .before .before .before) (c .before .enum-told2 .given .1)
 
 returns-3 : tie.Need-returns-3
-unfolding untakenBy
+unfolding untakenBy dealingNumber
 returns-3 c =
     let refusal = c .before .before in
     let told = refusal .before in
     let taken = told .before .before in
-    c .or-next2 .ensures
-    ∙ rw (refusal .complaint-refusal .ensures, c .before .has2 .ensures, taken .before .before .before .byte .ensures) (answer taken (told .enum-told3 .given .1))
+    c .or-next .ensures
+    ∙ rw (refusal .dealing-refusal .ensures, c .before .has .ensures, taken .before .before .before .byte .ensures) (answer taken (told .enum-told3 .given .1))
 
 returns-4 : tie.Need-returns-4
 unfolding untakenBy
-returns-4 c = c .challenges-refusal .ensures ∙ answer (c .before .before .before) (c .before .enum-told4 .given .1)
+returns-4 c = c .go-number .ensures ∙ answer (c .before .before .before) (c .before .enum-told4 .given .1)
 
 returns-5 : tie.Need-returns-5
 unfolding untakenBy
-returns-5 c = c .shifted-refusal .ensures ∙ answer (c .before .before .before) (c .before .enum-told5 .given .1)
+returns-5 c =
+    let refusal = c .before .before in
+    let told = refusal .before in
+    let taken = told .before .before in
+    c .or-next2 .ensures
+    ∙ rw (refusal .complaint-refusal .ensures, c .before .has2 .ensures, taken .before .before .before .byte .ensures) (answer taken (told .enum-told5 .given .1))
 
 returns-6 : tie.Need-returns-6
 unfolding untakenBy
-returns-6 c =
+returns-6 c = c .challenges-refusal .ensures ∙ answer (c .before .before .before) (c .before .enum-told6 .given .1)
+
+returns-7 : tie.Need-returns-7
+unfolding untakenBy
+returns-7 c = c .shifted-refusal .ensures ∙ answer (c .before .before .before) (c .before .enum-told7 .given .1)
+
+returns-8 : tie.Need-returns-8
+unfolding untakenBy
+returns-8 c =
     let sent = c .before .before in
     let refusal = sent .before .before in
     let told = refusal .before in
     let taken = told .before .before in
     c .or-next4 .ensures
     ∙ rw (sent .or-next3 .ensures, refusal .response-refusal .ensures, sent .before .has3 .ensures, c .before .has4 .ensures, taken .before .before .before .byte .ensures)
-    (answer taken (told .enum-told6 .given .1))
+    (answer taken (told .enum-told8 .given .1))
 
-returns-7 : tie.Need-returns-7
+returns-9 : tie.Need-returns-9
 unfolding untakenBy
-returns-7 c = answer (c .before .before .before) (c .before .handler .given .1)
+returns-9 c = answer (c .before .before .before) (c .before .handler .given .1)
 
 pub untaken-spec : {M : Type 1} → statement M
 untaken-spec =
@@ -148,18 +168,22 @@ untaken-spec =
     enum-told
     setup-refusal-requires
     enum-told-2
+    setup-refusal-requires-2
+    enum-told-3
     dealing-refusal-requires
     has-requires
     or-next-requires
-    enum-told-3
+    enum-told-4
+    go-number-requires
+    enum-told-5
     complaint-refusal-requires
     has-requires-2
     or-next-requires-2
-    enum-told-4
-    challenges-refusal-requires
-    enum-told-5
-    shifted-refusal-requires
     enum-told-6
+    challenges-refusal-requires
+    enum-told-7
+    shifted-refusal-requires
+    enum-told-8
     response-refusal-requires
     has-requires-3
     or-next-requires-3
@@ -172,4 +196,6 @@ untaken-spec =
     returns-4
     returns-5
     returns-6
-    returns-7)
+    returns-7
+    returns-8
+    returns-9)

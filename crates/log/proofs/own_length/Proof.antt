@@ -1,0 +1,23 @@
+-- `own_length` meets its contract. Assumes nothing.
+use borrow.Author.Needs.{needs}
+use borrow.Author.Tests.{le-leb, lt-leb}
+use Rattle.log.specs.Cutting.{ownLength}
+use Rattle.log.proofs.own_length.Statement.{statement}
+use Rattle.log.proofs.own_length.Tie as tie
+
+returns : tie.Need-returns
+unfolding ownLength
+returns c = rw (lt-leb 6 _ (c .if1 .taken))
+
+byte-requires : tie.Need-byte-requires
+byte-requires c κs = search needs
+
+setup-length-requires : tie.Need-setup-length-requires
+setup-length-requires c κs = search needs
+
+returns-2 : tie.Need-returns-2
+unfolding ownLength
+returns-2 c = rw (le-leb 6 _ (c .before .before .if1 .left), ← c .before .byte .ensures) (c .setup-length .ensures)
+
+pub own-length-spec : {M : Type 1} → statement M
+own-length-spec = tie.close (tie.spec returns byte-requires setup-length-requires returns-2)
