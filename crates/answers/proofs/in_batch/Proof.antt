@@ -1,8 +1,11 @@
 -- `in_batch` meets its contract: each test settles one factor of the definition. Assumes nothing.
 use native.Mathlib.Omega.{arith}
 use borrow.Author.Tests.{le-leb, lt-leb}
-use Prim.Native.Nat.{_≤_}
-use mathlib.Core.Path.{refl}
+use Prim.Native.Nat.{ℕ, _≤_, _<_}
+use mathlib.Core.Path.{_≡_, refl, sym, ap, _∙_}
+use mathlib.Core.Bool.{Bool, false, _&&_, and-false}
+use lib.Dec.{leb}
+use Rattle.run.specs.declared.Run.{Run}
 use Rattle.answers.specs.Answers.{inBatch}
 use Rattle.answers.proofs.in_batch.Statement.{statement}
 use Rattle.answers.proofs.in_batch.Tie as tie
@@ -11,12 +14,15 @@ returns : tie.Need-returns
 unfolding inBatch
 returns c = rw (lt-leb 1 (c .before .args .u) (c .if1 .taken))
 
-returns-2 : tie.Need-returns-2
+-- u above b
+beyond : (r : Run) (u k : ℕ) → r .b < u → inBatch r u k ≡ false
 unfolding inBatch
+beyond r u k l = ap (λ (x : Bool). (leb 1 u && x) && (leb 1 k && leb k (r .setup .a))) (lt-leb u (r .b) l) ∙ rw and-false
+
+returns-2 : tie.Need-returns-2
 returns-2 c =
     let a = c .before .before .before .args in
-    let p : 1 ≤ a .u = omega arith in
-    rw (le-leb 1 (a .u) p, lt-leb (a .u) (a .run .b) (c .if2 .taken))
+    sym (beyond (a .run) (a .u) (a .k) (c .if2 .taken))
 
 returns-3 : tie.Need-returns-3
 unfolding inBatch

@@ -2,6 +2,7 @@
 use borrow.Author.Needs.{needs}
 use borrow.Author.Tests.{le-leb, lt-leb, eq-eqb, ne-eqb}
 use mathlib.Core.Path.{refl}
+use Prim.Native.Nat.{_-_}
 use Rattle.run.specs.Runs.{batchFits}
 use Rattle.run.proofs.batch_fits.Statement.{statement}
 use Rattle.run.proofs.batch_fits.Tie as tie
@@ -11,7 +12,9 @@ sub-if2 c = search needs
 
 returns : tie.Need-returns
 unfolding batchFits
-returns c = rw (lt-leb _ 1 (c .before .if1 .taken), lt-leb _ _ (c .if2 .taken))
+returns c =
+    let a = c .before .before .args in
+    rw (lt-leb _ 1 (c .before .if1 .taken), lt-leb (a .n - a .t) (a .m) (c .if2 .taken))
 
 batch-requires : tie.Need-batch-requires
 batch-requires c κs = search needs
