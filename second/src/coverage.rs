@@ -1,6 +1,6 @@
 //! Which refusal numbers and last stages a set of logs reaches, what becomes of
-//! the CS records in it, and what it shows of 31 to 64 parties, of identities and
-//! of the size of BAD.
+//! the CS records in it, and what it shows of 31 to 64 parties, of identities, of
+//! the size of BAD and of runs that wait for more dealers.
 
 use crate::arith::Scalar;
 use crate::count_coverage;
@@ -10,11 +10,12 @@ use crate::records::Tag;
 use crate::refusal::answer_number;
 use crate::report::LONGEST_LOG;
 use crate::run::Stage;
+use crate::wait_coverage;
 use crate::wide_coverage;
 use std::collections::{BTreeMap, BTreeSet};
 
 /// The numbers with which a record can be refused.
-const RECORD_REFUSALS: [u8; 14] = [1, 2, 3, 4, 5, 6, 7, 8, 11, 12, 13, 14, 15, 16];
+const RECORD_REFUSALS: [u8; 15] = [1, 2, 3, 4, 5, 6, 7, 8, 11, 12, 13, 14, 15, 16, 17];
 
 /// The numbers that answer CS records, 0 for acceptance.
 const SHIFT_ANSWERS: [u8; 5] = [0, 11, 2, 3, 6];
@@ -36,8 +37,8 @@ pub struct Coverage {
     pub shift_answers: BTreeMap<u8, usize>,
     /// How many logs ended at stage 5 after an accepted CS, by kind of shift.
     pub done_by_shift: BTreeMap<&'static str, usize>,
-    /// What some log shows of 31 to 64 parties, of identities and of the size of
-    /// BAD, in words.
+    /// What some log shows of 31 to 64 parties, of identities, of the size of BAD and
+    /// of runs that wait, in words.
     pub shown: BTreeSet<String>,
 }
 
@@ -57,6 +58,7 @@ impl Coverage {
         self.shown.extend(wide_coverage::shown(log, &reading));
         self.shown.extend(identity_coverage::shown(log, &reading));
         self.shown.extend(count_coverage::shown(&reading));
+        self.shown.extend(wait_coverage::shown(&reading));
     }
 
     fn add_shifts(&mut self, reading: &Reading) {
@@ -81,6 +83,7 @@ impl Coverage {
         missing.extend(self.missing_wide());
         missing.extend(self.missing_identities());
         missing.extend(self.missing_counts());
+        missing.extend(self.missing_waits());
         missing
     }
 
@@ -99,6 +102,11 @@ impl Coverage {
         never_shown(count_coverage::wanted(), &self.shown)
     }
 
+    /// What is never shown of runs that wait for more dealers.
+    pub fn missing_waits(&self) -> Vec<String> {
+        never_shown(wait_coverage::wanted(), &self.shown)
+    }
+
     /// The counts, a line each.
     pub fn lines(&self) -> Vec<String> {
         let mut lines = vec![format!("logs {}", self.logs), format!("long {}", self.long)];
@@ -110,6 +118,7 @@ impl Coverage {
             ("31 to 64 parties", wide_coverage::wanted()),
             ("identities", identity_coverage::wanted()),
             ("the size of BAD", count_coverage::wanted()),
+            ("runs that wait", wait_coverage::wanted()),
         ];
         lines.extend(kinds.map(|(of, wanted)| counted_shown(of, &wanted, &self.shown)));
         lines

@@ -5,7 +5,7 @@
 //! the plain way: accepted records stand in order of arrival, sets are sorted
 //! sets of party numbers, counted member by member, the weights of interpolation
 //! come from solving the Vandermonde system by Gaussian elimination, and a shift
-//! is one more dealing.
+//! is one more dealing, and how many dealings a run signs with is counted when asked.
 //!
 //! - `arith`: scalars and group elements
 //! - `weights`: interpolation
@@ -15,8 +15,8 @@
 //! - `writers`, `requests`: making records, and the stream that asks for them
 //! - `masks`: counting members, and the stream that asks for it
 //! - `generator`, `rng`: logs, requests and masks for the comparison
-//! - `coverage`, `wide_coverage`, `identity_coverage`, `count_coverage`: what the
-//!   logs reach
+//! - `coverage`, `wide_coverage`, `identity_coverage`, `count_coverage`,
+//!   `wait_coverage`: what the logs reach
 //! - `mask_coverage`: what the masks show
 
 #![forbid(unsafe_code)]
@@ -36,6 +36,7 @@ pub mod report;
 pub mod requests;
 pub mod rng;
 pub mod run;
+pub mod wait_coverage;
 pub mod weights;
 pub mod wide_coverage;
 pub mod writers;

@@ -1,5 +1,5 @@
 //! Cutting a log into records and giving them to a run one by one.
-//! Written from document 01 alone.
+//! Written from documents 01 and 02 alone.
 
 use crate::records::{setup_length, Tag};
 use crate::refusal::Refusal;
@@ -20,6 +20,8 @@ pub struct Given {
     /// Where it stands in the log.
     pub place: Range<usize>,
     pub tag: Option<Tag>,
+    /// The stage at which it was given.
+    pub stage: Stage,
     /// The run's answer.
     pub answer: Result<(), Refusal>,
 }
@@ -43,10 +45,11 @@ pub fn read_log(log: &[u8]) -> Reading {
     let mut rest = log;
     while !rest.is_empty() {
         let (record, after) = cut(&reading.run, rest);
+        let stage = reading.run.stage;
         let answer = reading.run.give(record);
         let end = log.len() - after.len();
         let place = end - record.len()..end;
-        reading.answers.push(Given { place, tag: Tag::of(record), answer });
+        reading.answers.push(Given { place, tag: Tag::of(record), stage, answer });
         rest = after;
     }
     reading
@@ -62,12 +65,12 @@ fn cut<'a>(run: &Run, rest: &'a [u8]) -> (&'a [u8], &'a [u8]) {
 }
 
 /// The length of the record that the bytes begin with. None for an unknown
-/// tag, SU under 6 bytes, and at stage 0 a tag other than SU.
+/// tag, SU and SX under 6 bytes, at stage 0 any other tag, and for CH, CS and RE
+/// while the run waits for GO.
 fn next_length(run: &Run, rest: &[u8]) -> Option<usize> {
     match Tag::of(rest)? {
-        Tag::Su if rest.len() < 6 => None,
-        Tag::Su => Some(setup_length(rest[3])),
-        _ if run.stage == Stage::Fresh => None,
-        tag => Some(tag.length(&run.params())),
+        Tag::Su | Tag::Sx if rest.len() < 6 => None,
+        Tag::Su | Tag::Sx => Some(setup_length(rest[3])),
+        tag => run.length(tag),
     }
 }

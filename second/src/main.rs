@@ -23,7 +23,8 @@ const USAGE: &str = "usage:
   second check-coverage DIR             name the refusals and stages the logs reach,
                                         the answers to CS, and what is missing of
                                         31 to 64 parties, of identities, of the size
-                                        of BAD, and in the streams of masks";
+                                        of BAD, of runs that wait for more dealers,
+                                        and in the streams of masks";
 
 /// The seed when none is given.
 const DEFAULT_SEED: u64 = 1;

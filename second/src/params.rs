@@ -33,12 +33,13 @@ impl Params {
         (self.t + 2 * self.a - 1) as usize
     }
 
-    /// The number b of combinations of dealings.
-    pub fn combinations(&self) -> u32 {
-        self.n - 2 * self.t
+    /// The number b of combinations of so many dealings: all but t.
+    pub fn combinations_of(&self, dealings: usize) -> u32 {
+        dealings as u32 - self.t
     }
 
-    /// The number of dealings, and of complaint rows, that a run waits for.
+    /// The number n-t: the fewest dealings that are enough, and the complaint rows
+    /// that a run waits for.
     pub fn majority(&self) -> usize {
         (self.n - self.t) as usize
     }

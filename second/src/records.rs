@@ -1,7 +1,7 @@
-//! The six kinds of record, CS of request 2.1 among them: their tags, their
-//! lengths, and reading their bytes. Reading asks refusals 2 to 8, and 16 of
-//! request 2.3, of the whole record, in the order 2, 3, 4, 5, 7, 16, 6, 8.
-//! Written from documents 01 and 02 alone.
+//! The eight kinds of record, CS of request 2.1 and SX and GO of request 2.5 among
+//! them: their tags, their lengths, and reading their bytes. Reading asks refusals
+//! 2 to 8, and 16 of request 2.3, of the whole record, in the order 2, 3, 4, 5, 7,
+//! 16, 6, 8. Written from documents 01 and 02 alone.
 
 use crate::arith::{Element, GroupNumber, Scalar};
 use crate::params::{Params, Party};
@@ -18,11 +18,16 @@ pub enum Tag {
     /// CH with a shift.
     Cs,
     Re,
+    /// SU of a run that waits for GO.
+    Sx,
+    Go,
 }
 
-/// SU: the setup.
+/// SU or SX: the setup.
 #[derive(Clone, Debug, PartialEq, Eq)]
 pub struct Setup {
+    /// Does SX give it, so that dealings are taken until GO?
+    pub waits: bool,
     pub params: Params,
     /// S.
     pub public_key: Element,
@@ -61,7 +66,8 @@ pub struct Response {
 }
 
 impl Tag {
-    pub const ALL: [Tag; 6] = [Tag::Su, Tag::De, Tag::Ve, Tag::Ch, Tag::Cs, Tag::Re];
+    pub const ALL: [Tag; 8] =
+        [Tag::Su, Tag::De, Tag::Ve, Tag::Ch, Tag::Cs, Tag::Re, Tag::Sx, Tag::Go];
 
     pub fn letters(self) -> &'static [u8; 2] {
         match self {
@@ -71,6 +77,8 @@ impl Tag {
             Tag::Ch => b"CH",
             Tag::Cs => b"CS",
             Tag::Re => b"RE",
+            Tag::Sx => b"SX",
+            Tag::Go => b"GO",
         }
     }
 
@@ -79,24 +87,48 @@ impl Tag {
         Tag::ALL.into_iter().find(|tag| bytes.starts_with(tag.letters()))
     }
 
-    /// The length of a record of this tag, SU aside: `setup_length` gives that one.
-    pub fn length(self, params: &Params) -> usize {
-        let (n, quorum, b) = (params.n as usize, params.quorum(), params.combinations() as usize);
-        let a = params.a as usize;
+    /// The length of a record of this tag with b combinations; none where it needs b
+    /// and there is none. That of SU and SX is for the t of the parameters.
+    pub fn length(self, params: &Params, b: Option<u32>) -> Option<usize> {
         match self {
-            Tag::Su => setup_length(params.t as u8),
-            Tag::De => 4 + 4 * quorum + 4 * n,
-            Tag::Ve => 4 + params.mask_length(),
-            Tag::Ch => 4 + 4 * a * b,
-            Tag::Cs => 8 + 4 * a * b,
-            Tag::Re => 4 + 4 * b,
+            Tag::Su | Tag::Sx => Some(setup_length(params.t as u8)),
+            Tag::De => Some(dealing_length(params)),
+            Tag::Ve => Some(complaint_length(params)),
+            Tag::Ch | Tag::Cs => b.map(|b| challenges_length(self, params, b)),
+            Tag::Re => b.map(response_length),
+            Tag::Go => Some(GO_LENGTH),
         }
     }
 }
 
-/// The length of SU with this t.
+/// The length of GO: its tag alone.
+const GO_LENGTH: usize = 2;
+
+/// The length of SU and of SX with this t.
 pub fn setup_length(t: u8) -> usize {
     4 * usize::from(t) + 10
+}
+
+pub fn dealing_length(params: &Params) -> usize {
+    4 + 4 * params.quorum() + 4 * params.n as usize
+}
+
+fn complaint_length(params: &Params) -> usize {
+    4 + params.mask_length()
+}
+
+/// The length of CH, and that of CS, which has one number more.
+fn challenges_length(tag: Tag, params: &Params, b: u32) -> usize {
+    let numbers = (params.a * b) as usize;
+    if tag == Tag::Cs {
+        8 + 4 * numbers
+    } else {
+        4 + 4 * numbers
+    }
+}
+
+fn response_length(b: u32) -> usize {
+    4 + 4 * b as usize
 }
 
 /// The four-byte numbers, high byte first, that the bytes are made of.
@@ -158,7 +190,8 @@ fn party(byte: u8, params: &Params) -> Result<Party, Refusal> {
     }
 }
 
-pub fn read_setup(bytes: &[u8]) -> Result<Setup, Refusal> {
+/// SU, and SX, which differs by its tag alone.
+pub fn read_setup(tag: Tag, bytes: &[u8]) -> Result<Setup, Refusal> {
     if bytes.len() < 6 {
         return Err(Refusal::Length);
     }
@@ -169,11 +202,12 @@ pub fn read_setup(bytes: &[u8]) -> Result<Setup, Refusal> {
     let read = group_numbers(&bytes[6..]);
     let keys = elements(&read)?;
     check_key(read[0])?;
-    Ok(Setup { params, public_key: keys[0], holder_keys: keys[1..].to_vec() })
+    let waits = tag == Tag::Sx;
+    Ok(Setup { waits, params, public_key: keys[0], holder_keys: keys[1..].to_vec() })
 }
 
 pub fn read_dealing(bytes: &[u8], params: &Params) -> Result<DealingRecord, Refusal> {
-    check_length(bytes, Tag::De.length(params))?;
+    check_length(bytes, dealing_length(params))?;
     check_reserved(&bytes[3..4])?;
     let dealer = party(bytes[2], params)?;
     let (committed, shared) = bytes[4..].split_at(4 * params.quorum());
@@ -183,7 +217,7 @@ pub fn read_dealing(bytes: &[u8], params: &Params) -> Result<DealingRecord, Refu
 }
 
 pub fn read_complaint(bytes: &[u8], params: &Params) -> Result<Complaint, Refusal> {
-    check_length(bytes, Tag::Ve.length(params))?;
+    check_length(bytes, complaint_length(params))?;
     check_reserved(&bytes[3..4])?;
     let holder = party(bytes[2], params)?;
     let blamed = masked(&bytes[4..]);
@@ -204,9 +238,14 @@ pub fn masked(mask: &[u8]) -> BTreeSet<Party> {
     bytes.flat_map(in_byte).collect()
 }
 
-/// CH, and CS, whose first scalar is the shift.
-pub fn read_challenges(tag: Tag, bytes: &[u8], params: &Params) -> Result<Challenges, Refusal> {
-    check_length(bytes, tag.length(params))?;
+/// CH, and CS, whose first scalar is the shift, of a run with b combinations.
+pub fn read_challenges(
+    tag: Tag,
+    bytes: &[u8],
+    params: &Params,
+    b: u32,
+) -> Result<Challenges, Refusal> {
+    check_length(bytes, challenges_length(tag, params, b))?;
     check_reserved(&bytes[2..4])?;
     let scalars = scalars(&bytes[4..])?;
     let (shift, challenges) = match tag {
@@ -217,10 +256,16 @@ pub fn read_challenges(tag: Tag, bytes: &[u8], params: &Params) -> Result<Challe
     Ok(Challenges { shift, rows })
 }
 
-pub fn read_response(bytes: &[u8], params: &Params) -> Result<Response, Refusal> {
-    check_length(bytes, Tag::Re.length(params))?;
+/// RE of a run with b combinations.
+pub fn read_response(bytes: &[u8], params: &Params, b: u32) -> Result<Response, Refusal> {
+    check_length(bytes, response_length(b))?;
     check_reserved(&bytes[3..4])?;
     let holder = party(bytes[2], params)?;
     let numbers = scalars(&bytes[4..])?;
     Ok(Response { holder, numbers })
+}
+
+/// GO says nothing but its tag.
+pub fn read_go(bytes: &[u8]) -> Result<(), Refusal> {
+    check_length(bytes, GO_LENGTH)
 }

@@ -35,6 +35,8 @@ pub enum Refusal {
     Response = 15,
     /// A key that is the identity: S is 1, or the SU writer's s is 0.
     IdentityKey = 16,
+    /// GO before n-t dealings are accepted.
+    Early = 17,
 }
 
 impl Refusal {

@@ -1,4 +1,5 @@
-//! The printed report of a log (document 01: page). Written from document 01 alone.
+//! The printed report of a log (document 01: page). Written from documents 01 and
+//! 02 alone.
 
 use crate::log::{read_log, Reading};
 use crate::params::Party;

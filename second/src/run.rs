@@ -9,6 +9,9 @@
 //! are all δ more, and so is what they interpolate to, as the weights of
 //! any points sum to 1: that is φ(u,k) + δ. Response rows are made and tested
 //! without it.
+//!
+//! m and b of request 2.5 are not kept: both follow from the setup and the accepted
+//! dealings whenever they are asked for. A run begun by SX has neither until GO.
 
 use crate::arith::{Element, Scalar};
 use crate::params::{party_point, slot_point, Params, Party};
@@ -76,18 +79,6 @@ impl Stage {
     pub fn number(self) -> u8 {
         self as u8
     }
-
-    /// The tags taken at this stage.
-    pub fn takes(self) -> &'static [Tag] {
-        match self {
-            Stage::Fresh => &[Tag::Su],
-            Stage::Dealing => &[Tag::De],
-            Stage::Complaining => &[Tag::Ve],
-            Stage::Challenging => &[Tag::Ch, Tag::Cs],
-            Stage::Responding => &[Tag::Re],
-            Stage::Done | Stage::Failed => &[],
-        }
-    }
 }
 
 impl Default for Run {
@@ -116,16 +107,58 @@ impl Run {
     /// Takes a record or refuses it; a refusal leaves the run as it was.
     pub fn give(&mut self, record: &[u8]) -> Result<(), Refusal> {
         let tag = Tag::of(record).ok_or(Refusal::Tag)?;
-        if !self.stage.takes().contains(&tag) {
+        if !self.takes().contains(&tag) {
             return Err(Refusal::Stage);
         }
         match tag {
-            Tag::Su => self.take_setup(record),
+            Tag::Su | Tag::Sx => self.take_setup(tag, record),
             Tag::De => self.take_dealing(record),
+            Tag::Go => self.take_go(record),
             Tag::Ve => self.take_complaint(record),
             Tag::Ch | Tag::Cs => self.take_challenges(tag, record),
             Tag::Re => self.take_response(record),
         }
+    }
+
+    /// The tags taken at the present stage; GO is where the run waits for it.
+    pub fn takes(&self) -> &'static [Tag] {
+        match self.stage {
+            Stage::Fresh => &[Tag::Su, Tag::Sx],
+            Stage::Dealing if self.waits() => &[Tag::De, Tag::Go],
+            Stage::Dealing => &[Tag::De],
+            Stage::Complaining => &[Tag::Ve],
+            Stage::Challenging => &[Tag::Ch, Tag::Cs],
+            Stage::Responding => &[Tag::Re],
+            Stage::Done | Stage::Failed => &[],
+        }
+    }
+
+    /// Was the run begun by SX, and has GO not come yet?
+    fn waits(&self) -> bool {
+        let begun_by_sx = self.setup.as_ref().is_some_and(|setup| setup.waits);
+        begun_by_sx && self.stage == Stage::Dealing
+    }
+
+    /// The number m of dealings to sign with: n-t in a run begun by SU, and in one
+    /// begun by SX as many as GO finds accepted. None before the setup and while the
+    /// run waits.
+    pub fn dealing_count(&self) -> Option<usize> {
+        match self.setup.as_ref()? {
+            setup if !setup.waits => Some(setup.params.majority()),
+            _ if self.waits() => None,
+            _ => Some(self.dealings.len()),
+        }
+    }
+
+    /// The number b of combinations, if m is known.
+    pub fn combinations(&self) -> Option<u32> {
+        self.dealing_count().map(|m| self.params().combinations_of(m))
+    }
+
+    /// The length of a record of this tag, if it is known: never before the setup,
+    /// and for CH, CS and RE not while the run waits. SU and SX go by their own t.
+    pub fn length(&self, tag: Tag) -> Option<usize> {
+        tag.length(&self.setup.as_ref()?.params, self.combinations())
     }
 
     /// The parameters; there are some from stage 1 on.
@@ -137,12 +170,16 @@ impl Run {
         self.setup.as_ref().expect("a setup from stage 1 on")
     }
 
+    fn expect_combinations(&self) -> u32 {
+        self.combinations().expect("b is fixed from stage 2 on")
+    }
+
     fn expect_sets(&self) -> &Sets {
         self.sets.as_ref().expect("the sets are fixed after stage 2")
     }
 
-    fn take_setup(&mut self, record: &[u8]) -> Result<(), Refusal> {
-        self.setup = Some(records::read_setup(record)?);
+    fn take_setup(&mut self, tag: Tag, record: &[u8]) -> Result<(), Refusal> {
+        self.setup = Some(records::read_setup(tag, record)?);
         self.stage = Stage::Dealing;
         Ok(())
     }
@@ -160,9 +197,18 @@ impl Run {
         let wronged = (1..=params.n).filter(|&j| !valid(j)).collect();
         let (dealer, commitments) = (sent.dealer, sent.commitments);
         self.dealings.push(Dealing { dealer, commitments, wronged });
-        if self.dealings.len() == params.majority() {
+        if self.dealing_count() == Some(self.dealings.len()) {
             self.stage = Stage::Complaining;
         }
+        Ok(())
+    }
+
+    fn take_go(&mut self, record: &[u8]) -> Result<(), Refusal> {
+        records::read_go(record)?;
+        if self.dealings.len() < self.params().majority() {
+            return Err(Refusal::Early);
+        }
+        self.stage = Stage::Complaining;
         Ok(())
     }
 
@@ -184,7 +230,8 @@ impl Run {
     }
 
     fn take_challenges(&mut self, tag: Tag, record: &[u8]) -> Result<(), Refusal> {
-        let sent = records::read_challenges(tag, record, &self.params())?;
+        let b = self.expect_combinations();
+        let sent = records::read_challenges(tag, record, &self.params(), b)?;
         (self.shift, self.challenges) = (sent.shift, sent.rows);
         self.stage = Stage::Responding;
         Ok(())
@@ -192,7 +239,7 @@ impl Run {
 
     fn take_response(&mut self, record: &[u8]) -> Result<(), Refusal> {
         let params = self.params();
-        let response = records::read_response(record, &params)?;
+        let response = records::read_response(record, &params, self.expect_combinations())?;
         if self.responses.iter().any(|earlier| earlier.holder == response.holder) {
             return Err(Refusal::Again);
         }
@@ -289,21 +336,20 @@ impl Run {
             let slots = self.params().slot_points();
             slots.iter().map(|&slot| self.weights.scalar_at(&points, &values, slot)).collect()
         };
-        (1..=self.params().combinations()).map(of_combination).collect()
+        (1..=self.expect_combinations()).map(of_combination).collect()
     }
 
     /// Every R(u,k) of a run past stage 2, shifted: for each u, those of slots 1 to a.
     pub fn nonces(&self) -> Vec<Vec<Element>> {
-        let params = self.params();
         let at_slot = |k: u32| {
             let mut commitments = self.qual_commitments_at(slot_point(k));
             commitments.push(self.shift_commitment_at(slot_point(k)));
             commitments
         };
-        let by_slot: Vec<Vec<(Party, Element)>> = (1..=params.a).map(at_slot).collect();
+        let by_slot: Vec<Vec<(Party, Element)>> = (1..=self.params().a).map(at_slot).collect();
         let of_combination =
             |u| by_slot.iter().map(|commitments| combine(commitments, u)).collect();
-        (1..=params.combinations()).map(of_combination).collect()
+        (1..=self.expect_combinations()).map(of_combination).collect()
     }
 }
 

@@ -97,7 +97,7 @@ fn member_above(set: &str, stage: Stage) -> String {
 fn parties(record: &[u8], given: &Given, run: &Run) -> Option<Party> {
     let late = given.answer == Err(Refusal::Stage);
     match given.tag {
-        Some(Tag::Su) if !late => record.get(2).map(|&n| Party::from(n)),
+        Some(Tag::Su | Tag::Sx) if !late => record.get(2).map(|&n| Party::from(n)),
         _ => run.setup.as_ref().map(|setup| setup.params.n),
     }
 }

@@ -1,5 +1,6 @@
-//! The writers of SU, DE, VE and RE. Each fills a buffer of exactly the
-//! record's length, or refuses and leaves it alone. The order of refusals is
+//! The writers of SU, DE, VE and RE; CH, CS, SX and GO have none. Each fills a
+//! buffer of exactly the record's length, or refuses and leaves it alone. VE and RE
+//! are written for runs begun by SU and by SX alike. The order of refusals is
 //! that of document 01 with request 2.3's 16: 11, 4, 5, 14, 10, 6, 16, 9. Written
 //! from documents 01 and 02 alone.
 
@@ -90,6 +91,7 @@ pub fn write_re(
     let params = run.params();
     check_party(&params, j)?;
     let sets = run.sets.as_ref().expect("the sets are fixed at stage 4");
+    let b = run.combinations().expect("b is fixed at stage 4");
     if !sets.hold.contains(&Party::from(j)) {
         return Err(Refusal::Outsider);
     }
@@ -100,7 +102,7 @@ pub fn write_re(
         qual_shares.push((dealer, scalar(shares[(dealer - 1) as usize])?));
     }
     let mut record = begin(Tag::Re, &[j, 0]);
-    for u in 1..=params.combinations() {
+    for u in 1..=b {
         let response = combine(&qual_shares, u) + run.challenge_of(u, Party::from(j)) * key_share;
         put_number(&mut record, response.number());
     }

@@ -55,7 +55,7 @@ fn every_signature_verifies() {
     let public_key = run.setup.as_ref().expect("a setup").public_key;
     let nonces = run.nonces().concat();
     let (challenges, signatures) = (run.challenges.concat(), run.signatures.concat());
-    let count = draft.params().a * draft.params().combinations();
+    let count = draft.params().a * draft.committee.combinations();
     assert_eq!(signatures.len(), count as usize);
     for (place, signature) in signatures.into_iter().enumerate() {
         let right = nonces[place] * public_key.power(challenges[place]);
@@ -70,7 +70,7 @@ fn every_signature_comes_from_the_secrets() {
     let run = answered(&draft, &draft.responders);
     let (a, secret) = (draft.params().a as usize, draft.committee.secret);
     let qual = &run.sets.as_ref().expect("the sets are fixed").qual;
-    for u in 0..draft.params().combinations() as usize {
+    for u in 0..draft.committee.combinations() as usize {
         for k in 1..=a {
             let mut sum = run.challenges[u][k - 1] * secret;
             for &dealer in qual {

@@ -6,6 +6,7 @@ use second::generator::document::{plain_setup, record, shifted, up_to_challenges
 use second::generator::log_set::NamedLog;
 use second::generator::logs::all_logs;
 use second::report::{report, LONGEST_LOG};
+use second::wait_coverage;
 use second::wide_coverage::wanted;
 use std::sync::OnceLock;
 
@@ -30,7 +31,7 @@ fn longest_log_is_read() {
 
 #[test]
 fn reading_ends_at_stage_0_on_another_tag() {
-    for rest in [&b"DE"[..], b"VE\x01\0\0\0\0\0", b"CH\0\0", b"CS\0\0", b"RE\x01"] {
+    for rest in [&b"DE"[..], b"VE\x01\0\0\0\0\0", b"CH\0\0", b"CS\0\0", b"RE\x01", b"GO"] {
         assert_eq!(report(rest), format!("refuse 1 11\n{NO_SETS}end 0\n"));
     }
 }
@@ -107,25 +108,28 @@ fn coverage_without(words: &[&str]) -> Coverage {
     coverage
 }
 
-/// What the logs reach that are neither of more than 32 parties nor about
-/// identities, found once.
+/// What the logs reach that are neither of more than 32 parties nor about identities,
+/// nor of runs that wait, found once.
 fn first_coverage() -> Coverage {
     static COVERAGE: OnceLock<Coverage> = OnceLock::new();
-    COVERAGE.get_or_init(|| coverage_without(&["wide", "identity", "count"])).clone()
+    COVERAGE.get_or_init(|| coverage_without(&["wide", "identity", "count", "wait"])).clone()
 }
 
-/// What is missing, more than 32 parties, identities and the size of BAD aside.
+/// What is missing, more than 32 parties, identities, the size of BAD and runs that
+/// wait aside, and with these refusal 17, which only they give.
 fn missing_else(coverage: &Coverage) -> Vec<String> {
     let mut aside = coverage.missing_wide();
     aside.extend(coverage.missing_identities());
     aside.extend(coverage.missing_counts());
+    aside.extend(coverage.missing_waits());
+    aside.push("refusal 17".to_string());
     coverage.missing().into_iter().filter(|what| !aside.contains(what)).collect()
 }
 
 /// Without CS the coverage is not whole.
 #[test]
 fn shifts_are_asked_for() {
-    let mut coverage = coverage_without(&["shift", "wide", "identity", "count"]);
+    let mut coverage = coverage_without(&["shift", "wide", "identity", "count", "wait"]);
     let answers = [0, 11, 2, 3, 6].map(|number| format!("CS answered {number}"));
     let ends = ["done with the shift 0", "done with another shift"].map(str::to_string);
     assert_eq!(missing_else(&coverage), [&answers[..], &ends].concat());
@@ -170,17 +174,32 @@ fn sizes_of_bad_are_asked_for() {
     assert_eq!(first_coverage().missing_counts(), count_coverage::wanted());
 }
 
+/// Without the logs of runs that wait, nothing is shown that is asked of them.
+#[test]
+fn runs_that_wait_are_asked_for() {
+    let coverage = first_coverage();
+    assert_eq!(coverage.missing_waits(), wait_coverage::wanted());
+    assert!(wait_coverage::wanted().iter().all(|what| coverage.missing().contains(what)));
+    assert!(coverage.missing().contains(&"refusal 17".to_string()));
+}
+
 /// Does the log begin with a setup whose S is 1?
 fn has_identity_key(log: &NamedLog) -> bool {
     log.bytes.starts_with(b"SU") && log.bytes.get(6..10) == Some(&[0, 0, 0, 1])
+}
+
+/// Is the log from before request 2.3, with such a setup? Later ones have a good setup
+/// after it.
+fn ends_with_its_key(log: &NamedLog) -> bool {
+    let later = ["identity", "wait"].iter().any(|word| log.kind.contains(word));
+    !later && has_identity_key(log)
 }
 
 /// Lots had drawn s = 0 for some logs before request 2.3. They keep their bytes, and
 /// reading them ends with what comes after their setup.
 #[test]
 fn some_earlier_logs_have_the_identity_as_their_key() {
-    let earlier = logs().iter().filter(|log| !log.kind.contains("identity"));
-    let refused: Vec<&NamedLog> = earlier.filter(|log| has_identity_key(log)).collect();
+    let refused: Vec<&NamedLog> = logs().iter().filter(|log| ends_with_its_key(log)).collect();
     assert_eq!(refused.len(), 21);
     for log in refused {
         let page = format!("refuse 1 16\nrefuse 2 11\n{NO_SETS}end 0\n");
@@ -188,35 +207,52 @@ fn some_earlier_logs_have_the_identity_as_their_key() {
     }
 }
 
+/// Kinds of logs that end with signatures.
+const COMPLETED: [&str; 37] = [
+    "complete-32-1-15",
+    "complete-32-10-1",
+    "full-packing",
+    "size-ends-done",
+    "shift-complete-32-1-15",
+    "shift-complete-32-10-1",
+    "wide-complete",
+    "wide-shifted",
+    "wide-bad-at-limit",
+    "wide-size-65536",
+    "identity-key",
+    "identity-refused-first",
+    "identity-of-every-size",
+    "identity-flood",
+    "identity-and-no-element",
+    "identity-holder-keys",
+    "identity-commitments",
+    "identity-zero-dealing",
+    "identity-rekeyed-complete",
+    "count-low-bad-at-limit",
+    "count-high-bad-at-limit",
+    "count-both-bad-at-limit",
+    "wait-example",
+    "wait-complete",
+    "wait-noisy",
+    "wait-very-noisy",
+    "wait-in-noise-alone",
+    "wait-every-fault",
+    "wait-largest",
+    "wait-bad",
+    "wait-other-order",
+    "wait-go-early",
+    "wait-go-one-early",
+    "wait-dealt-late",
+    "wait-setup-refused",
+    "wait-flood-then-done",
+    "wait-size-65536",
+];
+
 #[test]
 fn large_committees_are_completed() {
-    for kind in [
-        "complete-32-1-15",
-        "complete-32-10-1",
-        "full-packing",
-        "size-ends-done",
-        "shift-complete-32-1-15",
-        "shift-complete-32-10-1",
-        "wide-complete",
-        "wide-shifted",
-        "wide-bad-at-limit",
-        "wide-size-65536",
-        "identity-key",
-        "identity-refused-first",
-        "identity-of-every-size",
-        "identity-flood",
-        "identity-and-no-element",
-        "identity-holder-keys",
-        "identity-commitments",
-        "identity-zero-dealing",
-        "identity-rekeyed-complete",
-        "count-low-bad-at-limit",
-        "count-high-bad-at-limit",
-        "count-both-bad-at-limit",
-    ] {
+    for kind in COMPLETED {
         for log in logs().iter().filter(|log| log.kind.starts_with(kind)) {
-            let kept = !kind.starts_with("identity") && has_identity_key(log);
-            let end = if kept { "end 0\n" } else { "end 5\n" };
+            let end = if ends_with_its_key(log) { "end 0\n" } else { "end 5\n" };
             assert!(report(&log.bytes).ends_with(end), "{}", log.kind);
         }
     }

@@ -210,7 +210,7 @@ fn every_printed_line_verifies() {
         let run = read_log(&log).run;
         let public_key = run.setup.as_ref().expect("a setup").public_key;
         let lines = signatures(&report(&log));
-        assert_eq!(lines.len(), (draft.params().a * draft.params().combinations()) as usize);
+        assert_eq!(lines.len(), (draft.params().a * draft.committee.combinations()) as usize);
         for [u, k, nonce, signature] in lines {
             let challenge = run.challenges[u as usize - 1][k as usize - 1];
             let signature = Scalar::read(signature).expect("a scalar");

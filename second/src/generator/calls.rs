@@ -7,6 +7,7 @@ use super::request_set::RequestSet;
 use super::run_calls::{re_requests, ve_requests};
 use super::shift_calls::shift_requests;
 use super::value_calls::{de_requests, su_requests};
+use super::wait_calls::wait_requests;
 use super::wide_calls::wide_requests;
 use crate::requests::{framed, Request, LONGEST_STREAM};
 use crate::rng::Rng;
@@ -23,6 +24,7 @@ pub fn all_streams(seed: u64) -> Vec<Vec<u8>> {
     streams.extend(in_streams(&requests_with_shifts(seed)));
     streams.extend(in_streams(&requests_above_32(seed)));
     streams.extend(in_streams(&requests_with_identities(seed)));
+    streams.extend(in_streams(&requests_that_wait(seed)));
     streams
 }
 
@@ -48,8 +50,13 @@ fn not_too_long(requests: &[Request]) -> Vec<Vec<u8>> {
 
 /// Every whole request that a seed gives.
 pub fn all_requests(seed: u64) -> Vec<Request> {
-    let groups =
-        [first_requests, requests_with_shifts, requests_above_32, requests_with_identities];
+    let groups = [
+        first_requests,
+        requests_with_shifts,
+        requests_above_32,
+        requests_with_identities,
+        requests_that_wait,
+    ];
     groups.into_iter().flat_map(|group| group(seed)).collect()
 }
 
@@ -81,5 +88,12 @@ pub fn requests_above_32(seed: u64) -> Vec<Request> {
 pub fn requests_with_identities(seed: u64) -> Vec<Request> {
     let mut gathered = RequestSet::default();
     identity_requests(&mut gathered, &mut Rng::new(seed));
+    gathered.requests
+}
+
+/// Those on runs that wait for more dealers.
+pub fn requests_that_wait(seed: u64) -> Vec<Request> {
+    let mut gathered = RequestSet::default();
+    wait_requests(&mut gathered, &mut Rng::new(seed));
     gathered.requests
 }

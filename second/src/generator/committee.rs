@@ -3,7 +3,7 @@
 use super::bytes::put;
 use crate::arith::{Element, Scalar, Q};
 use crate::params::{party_point, Params, Party, MOST_NARROW, MOST_PARTIES};
-use crate::records::{Setup, Tag};
+use crate::records::{dealing_length, setup_length, Setup, Tag};
 use crate::refusal::Refusal;
 use crate::rng::Rng;
 use crate::run::Run;
@@ -25,6 +25,8 @@ pub struct Committee {
     pub key_values: Vec<Scalar>,
     /// For each party, the values of its H at the committed points.
     pub dealings: Vec<Vec<Scalar>>,
+    /// How many dealings it signs with: n-t, or more where its run waits for them.
+    pub heard: usize,
     weights: WeightTable,
 }
 
@@ -90,6 +92,12 @@ pub fn as_cs(ch: &[u8], shift: u32) -> Vec<u8> {
     [Tag::Cs.letters(), &ch[2..4], &shift.to_be_bytes(), &ch[4..]].concat()
 }
 
+/// The SX that an SU is with the other tag.
+pub fn as_sx(mut su: Vec<u8>) -> Vec<u8> {
+    su[..2].copy_from_slice(Tag::Sx.letters());
+    su
+}
+
 /// Puts 1 for S in an SU.
 pub fn put_identity_key(su: &mut [u8]) {
     put(su, KEY_PLACE, Element::ONE.number());
@@ -108,6 +116,7 @@ impl Committee {
             secret: random_scalar(rng),
             key_values: random_scalars(params.t as usize, rng),
             dealings: (0..params.n).map(|_| random_scalars(params.quorum(), rng)).collect(),
+            heard: params.majority(),
             weights: WeightTable::default(),
         }
     }
@@ -138,7 +147,19 @@ impl Committee {
     /// What SU says.
     pub fn setup(&self) -> Setup {
         let holder_keys = self.key_values.iter().copied().map(Element::of).collect();
-        Setup { params: self.params, public_key: Element::of(self.secret), holder_keys }
+        let public_key = Element::of(self.secret);
+        Setup { waits: false, params: self.params, public_key, holder_keys }
+    }
+
+    /// b.
+    pub fn combinations(&self) -> u32 {
+        self.params.combinations_of(self.heard)
+    }
+
+    /// The length of a record of this tag.
+    pub fn length(&self, tag: Tag) -> usize {
+        let length = tag.length(&self.params, Some(self.combinations()));
+        length.expect("with b every tag has a length")
     }
 
     /// SU. The writer refuses s = 0; the record is then that of s = 1 but for S.
@@ -148,22 +169,27 @@ impl Committee {
             return with_identity_key(other.su());
         }
         let (params, key_values) = (as_bytes(self.params), as_numbers(&self.key_values));
-        let length = Tag::Su.length(&self.params);
+        let length = setup_length(self.params.t as u8);
         written(length, |buffer| write_su(params, self.secret.number(), &key_values, buffer))
+    }
+
+    /// SX with what SU says.
+    pub fn sx(&self) -> Vec<u8> {
+        as_sx(self.su())
     }
 
     pub fn de(&self, i: Party) -> Vec<u8> {
         let values = as_numbers(&self.dealings[(i - 1) as usize]);
-        let length = Tag::De.length(&self.params);
+        let length = dealing_length(&self.params);
         written(length, |buffer| write_de(as_bytes(self.params), i as u8, &values, buffer))
     }
 
     pub fn ve(&self, run: &Run, j: Party) -> Vec<u8> {
-        written(Tag::Ve.length(&self.params), |buffer| write_ve(run, j as u8, buffer))
+        written(self.length(Tag::Ve), |buffer| write_ve(run, j as u8, buffer))
     }
 
     pub fn ch(&self, rng: &mut Rng) -> Vec<u8> {
-        let count = (self.params.a * self.params.combinations()) as usize;
+        let count = (self.params.a * self.combinations()) as usize;
         let challenges = as_numbers(&random_scalars(count, rng));
         let numbers = challenges.iter().flat_map(|number| number.to_be_bytes());
         Tag::Ch.letters().iter().copied().chain([0, 0]).chain(numbers).collect()
@@ -175,7 +201,6 @@ impl Committee {
 
     pub fn re(&self, run: &Run, j: Party) -> Vec<u8> {
         let (key_share, shares) = (self.key_share(j).number(), self.shares_for(j));
-        let length = Tag::Re.length(&self.params);
-        written(length, |buffer| write_re(run, j as u8, key_share, &shares, buffer))
+        written(self.length(Tag::Re), |buffer| write_re(run, j as u8, key_share, &shares, buffer))
     }
 }

@@ -96,7 +96,7 @@ fn add_every_fault(draft: &mut Draft, rng: &mut Rng) {
 /// Every response number in turn is off by one.
 fn add_wronged_responses(draft: &mut Draft, rng: &mut Rng) {
     let good = draft.next_record(rng);
-    for u in 0..draft.params().combinations() as usize {
+    for u in 0..draft.committee.combinations() as usize {
         let mut record = good.clone();
         spoil::shift_number(&mut record, 4 + 4 * u, 1);
         draft.refuse(&record, Refusal::Response);

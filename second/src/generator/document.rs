@@ -1,5 +1,5 @@
 //! The logs that document 01 gives: the worked one and its cases B, C, D, E, L.
-//! Besides, the worked one with a shift.
+//! Besides, the worked one with a shift, and begun by SX with a dealing more.
 
 /// A record from its letters, its one-byte fields and its numbers.
 pub fn record(letters: &str, fields: &[u8], numbers: &[u32]) -> Vec<u8> {
@@ -92,6 +92,26 @@ pub fn false_blame() -> Vec<u8> {
 /// L: dealers 2 and 3 wrong holder 2 and are blamed, one more than t.
 pub fn too_many_bad() -> Vec<u8> {
     [up_to_dealings(2, 5), complaints(6).concat()].concat()
+}
+
+/// The worked log begun by SX with a dealing of 4, H = 1 + 2x, up to the dealings.
+pub fn waiting_for_four() -> Vec<u8> {
+    let setup = record("SX", &[4, 1, 1, 0], &[4, 16]);
+    let fourth = record("DE", &[4, 0], &[4, 64, 3, 5, 7, 9]);
+    [setup, dealings(1, 4).concat(), fourth].concat()
+}
+
+/// The same up to challenges 1, 2, 3.
+pub fn four_challenged() -> Vec<u8> {
+    let challenges = record("CH", &[0, 0], &[1, 2, 3]);
+    [waiting_for_four(), b"GO".to_vec(), complaints(0).concat(), challenges].concat()
+}
+
+/// The same with its two responses.
+pub fn four_done() -> Vec<u8> {
+    let rows = [(2, [15, 42, 131]), (3, [20, 56, 176])];
+    let rows = rows.map(|(holder, numbers)| record("RE", &[holder, 0], &numbers));
+    [four_challenged(), rows.concat()].concat()
 }
 
 /// F and G: an SU of these parameters whose keys are all 4.

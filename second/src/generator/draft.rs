@@ -19,6 +19,9 @@ use std::collections::BTreeSet;
 /// The tags of document 01.
 pub const FIRST_TAGS: [Tag; 5] = [Tag::Su, Tag::De, Tag::Ve, Tag::Ch, Tag::Re];
 
+/// Those, and CS of request 2.1.
+pub const SHIFT_TAGS: [Tag; 6] = [Tag::Su, Tag::De, Tag::Ve, Tag::Ch, Tag::Cs, Tag::Re];
+
 #[derive(Clone)]
 pub struct Draft {
     pub committee: Committee,
@@ -42,6 +45,8 @@ pub struct Draft {
     pub identity_keys: bool,
     /// The shift that the challenges are given with; CH gives them where there is none.
     pub shift: Option<Scalar>,
+    /// Is it begun by SX, so that GO follows its last dealing (request 2.5)?
+    pub waits: bool,
 }
 
 impl Draft {
@@ -63,6 +68,7 @@ impl Draft {
             most_parties: if params.n <= MOST_NARROW { MOST_NARROW } else { MOST_PARTIES },
             identity_keys: false,
             shift: None,
+            waits: false,
         }
     }
 
@@ -104,8 +110,25 @@ impl Draft {
 
     /// CS is among the refused records too.
     pub fn with_every_tag(mut self) -> Draft {
+        self.tags = &SHIFT_TAGS;
+        self
+    }
+
+    /// CS, SX and GO are among the refused records too.
+    pub fn with_waiting_tags(mut self) -> Draft {
         self.tags = &Tag::ALL;
         self
+    }
+
+    /// SX begins it, and after the n-t dealers so many of the others deal, drawn by
+    /// lot.
+    pub fn with_extra_dealers(mut self, count: usize, rng: &mut Rng) -> Draft {
+        let others: Vec<Party> =
+            (1..=self.params().n).filter(|party| !self.dealers.contains(party)).collect();
+        self.dealers.extend(rng.some_of(&others, count));
+        self.committee.heard = self.dealers.len();
+        self.waits = true;
+        self.with_waiting_tags()
     }
 
     /// Refused setups go by request 2.2, and CS is among the refused records.
@@ -132,30 +155,49 @@ impl Draft {
 
     /// The draft's tags that the stage of the run takes.
     pub fn taken_tags(&self) -> Vec<Tag> {
-        let taken = self.run.stage.takes();
+        let taken = self.run.takes();
         self.tags.iter().copied().filter(|tag| taken.contains(tag)).collect()
     }
 
-    /// The draft's tags that it does not take.
+    /// The draft's tags that it does not take, and that do not end the reading.
     pub fn alien_tags(&self) -> Vec<Tag> {
-        let taken = self.run.stage.takes();
-        self.tags.iter().copied().filter(|tag| !taken.contains(tag)).collect()
+        let taken = self.run.takes();
+        let passed_over = |tag: &Tag| !taken.contains(tag) && self.run.length(*tag).is_some();
+        self.tags.iter().copied().filter(passed_over).collect()
+    }
+
+    /// The tag of the next good record, but for CS in place of CH.
+    fn next_tag(&self) -> Tag {
+        match self.run.takes() {
+            [Tag::Su, Tag::Sx] if self.waits => Tag::Sx,
+            [Tag::De, Tag::Go] if self.run.dealings.len() == self.dealers.len() => Tag::Go,
+            [tag, ..] => *tag,
+            [] => panic!("no record is taken at the end"),
+        }
     }
 
     /// The next good record for the stage of the run.
     pub fn next_record(&self, rng: &mut Rng) -> Vec<u8> {
-        match (self.run.stage.takes(), self.shift) {
-            ([Tag::Ch, Tag::Cs], Some(shift)) => self.committee.cs(shift, rng),
-            ([tag, ..], _) => self.good_record(*tag, rng),
-            ([], _) => panic!("no record is taken at the end"),
+        match (self.next_tag(), self.shift) {
+            (Tag::Ch, Some(shift)) => self.committee.cs(shift, rng),
+            (tag, _) => self.good_record(tag, rng),
         }
     }
 
-    /// A good record of a tag that the stage of the run takes.
+    /// The dealer whose turn it is, or the last one where all have dealt.
+    fn next_dealer(&self) -> Party {
+        let last = self.dealers.len() - 1;
+        self.dealers[self.run.dealings.len().min(last)]
+    }
+
+    /// A good record of a tag that the stage of the run takes; a DE is good while
+    /// there is a dealer left.
     pub fn good_record(&self, tag: Tag, rng: &mut Rng) -> Vec<u8> {
         match tag {
             Tag::Su => self.committee.su(),
-            Tag::De => self.dealing(self.dealers[self.run.dealings.len()], rng),
+            Tag::Sx => self.committee.sx(),
+            Tag::De => self.dealing(self.next_dealer(), rng),
+            Tag::Go => Tag::Go.letters().to_vec(),
             Tag::Ve => self.complaint(self.holders[self.run.complaints.len()]),
             Tag::Ch => self.committee.ch(rng),
             Tag::Cs => self.committee.cs(random_scalar(rng), rng),
@@ -216,7 +258,7 @@ impl Draft {
     }
 
     pub fn at_end(&self) -> bool {
-        self.run.stage.takes().is_empty()
+        self.run.takes().is_empty()
     }
 
     /// How many bits the mask of VE has in this committee.
@@ -226,7 +268,7 @@ impl Draft {
 
     /// The length of a record of this tag in this committee.
     pub fn length(&self, tag: Tag) -> usize {
-        tag.length(&self.params())
+        self.committee.length(tag)
     }
 }
 

@@ -110,11 +110,15 @@ pub fn cut_tails(draft: &Draft, rng: &mut Rng) -> Vec<Vec<u8>> {
     for &tag in draft.tags {
         let taken = draft.taken_tags().contains(&tag);
         let whole = if taken { draft.good_record(tag, rng) } else { spoil::alien(draft, tag, rng) };
+        if tag == Tag::Go {
+            tails.push(whole[..1].to_vec());
+            continue;
+        }
         let any = rng.between(2, whole.len() as u32 - 1) as usize;
         let mut lengths = match (taken, tag) {
-            (true, Tag::Su) => vec![1, 2, 3, 4, 5, 6, 9, whole.len() - 1],
+            (true, Tag::Su | Tag::Sx) => vec![1, 2, 3, 4, 5, 6, 9, whole.len() - 1],
             (true, _) => vec![1, 2, 3, 4, any, whole.len() - 1],
-            (false, Tag::Su) => vec![2, 5, 6, whole.len() - 1],
+            (false, Tag::Su | Tag::Sx) => vec![2, 5, 6, whole.len() - 1],
             (false, _) => vec![any],
         };
         lengths.dedup();

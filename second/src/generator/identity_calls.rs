@@ -12,7 +12,7 @@ use super::wide::OUTSIDE;
 use super::wide_masks::draft_hearing;
 use crate::arith::{Scalar, Q};
 use crate::params::Params;
-use crate::records::{setup_length, Tag};
+use crate::records::{dealing_length, setup_length};
 use crate::requests::{Call, Request};
 use crate::rng::Rng;
 use crate::run::{Run, Stage};
@@ -43,7 +43,7 @@ fn add_taken(gathered: &mut RequestSet, request: Request, run: &Run) {
 /// An SU request with every choice of faults, s = 0 among them, and good ones with
 /// s next to 0 and with F(j) = 0.
 fn setups(gathered: &mut RequestSet, params: Params, rng: &mut Rng) {
-    let (triple, length) = (as_bytes(params), Tag::Su.length(&params));
+    let (triple, length) = (as_bytes(params), setup_length(params.t as u8));
     let t = params.t as usize;
     let key_values: Vec<u32> = (0..t).map(|_| random_scalar(rng).number()).collect();
     let good = su_request(triple, rng.between(1, Q - 1), key_values.clone(), length);
@@ -105,7 +105,7 @@ fn dealings(gathered: &mut RequestSet, params: Params, rng: &mut Rng) {
         let mut values: Vec<u32> = (0..=last).map(|_| random_scalar(rng).number()).collect();
         values[zeros].fill(0);
         let i = rng.between(1, params.n) as u8;
-        let request = de_request(as_bytes(params), i, values, Tag::De.length(&params));
+        let request = de_request(as_bytes(params), i, values, dealing_length(&params));
         add_taken(gathered, request, &run);
     }
 }

@@ -2,7 +2,8 @@
 //! with and without faults, logs at the limits of the format (in `edges`), logs
 //! with CS (in `shifts` and `shift_edges`), logs of more than 32 parties (in `wide`,
 //! `wide_masks` and `wide_edges`), logs with identities (in `identity`,
-//! `identity_values` and `rekeyed`), and logs about the size of BAD (in `count`).
+//! `identity_values` and `rekeyed`), logs about the size of BAD (in `count`), and logs
+//! of runs that wait for more dealers (in `waits`, `wait_edges` and `wait_lengths`).
 //! New kinds stand last, so that the others keep their places and bytes.
 
 use super::committee::random_params;
@@ -13,58 +14,75 @@ use super::draft::Draft;
 use super::edges;
 use super::log_set::{LogSet, NamedLog};
 use super::{identity, identity_values, rekeyed, shift_edges, shifts};
+use super::{wait_edges, wait_lengths, waits};
 use super::{wide, wide_edges, wide_masks};
 use crate::params::{Params, MOST_NARROW};
 use crate::rng::Rng;
 use crate::run::Stage;
 
+/// Adds logs to the set.
+type Group = fn(&mut LogSet, &mut Rng);
+
+/// Every group of logs, in order.
+const GROUPS: [Group; 51] = [
+    document_logs,
+    full_packing_logs,
+    complete_logs,
+    other_quorum_logs,
+    wrong_share_logs,
+    stopped_logs,
+    fault_logs,
+    edges::setup_logs,
+    edges::cut_logs,
+    edges::after_end_logs,
+    edges::senseless_logs,
+    edges::size_logs,
+    edges::flood_logs,
+    edges::changed_logs,
+    shifts::complete_logs,
+    shifts::pair_logs,
+    shifts::refused_logs,
+    shifts::later_logs,
+    shift_edges::stage_logs,
+    shift_edges::cut_logs,
+    shift_edges::length_logs,
+    shift_edges::senseless_logs,
+    wide::setup_logs,
+    wide::complete_logs,
+    wide::fault_logs,
+    wide_masks::bit_logs,
+    wide_masks::order_logs,
+    wide_masks::set_logs,
+    wide_edges::width_logs,
+    wide_edges::cut_logs,
+    wide_edges::size_logs,
+    wide_edges::changed_logs,
+    identity::setup_logs,
+    identity::element_logs,
+    identity::order_logs,
+    identity_values::holder_key_logs,
+    identity_values::commitment_logs,
+    identity_values::mixed_logs,
+    rekeyed::rekeyed_logs,
+    count::bad_logs,
+    waits::complete_logs,
+    waits::noisy_logs,
+    waits::bad_logs,
+    waits::pair_logs,
+    wait_edges::go_logs,
+    wait_edges::dealing_logs,
+    wait_edges::setup_logs,
+    wait_lengths::before_go_logs,
+    wait_lengths::length_logs,
+    wait_lengths::flood_logs,
+    wait_lengths::changed_logs,
+];
+
 /// Every log of the set that a seed gives.
 pub fn all_logs(seed: u64) -> Vec<NamedLog> {
     let mut rng = Rng::new(seed);
     let mut gathered = LogSet::default();
-    let groups = [
-        document_logs,
-        full_packing_logs,
-        complete_logs,
-        other_quorum_logs,
-        wrong_share_logs,
-        stopped_logs,
-        fault_logs,
-        edges::setup_logs,
-        edges::cut_logs,
-        edges::after_end_logs,
-        edges::senseless_logs,
-        edges::size_logs,
-        edges::flood_logs,
-        edges::changed_logs,
-        shifts::complete_logs,
-        shifts::pair_logs,
-        shifts::refused_logs,
-        shifts::later_logs,
-        shift_edges::stage_logs,
-        shift_edges::cut_logs,
-        shift_edges::length_logs,
-        shift_edges::senseless_logs,
-        wide::setup_logs,
-        wide::complete_logs,
-        wide::fault_logs,
-        wide_masks::bit_logs,
-        wide_masks::order_logs,
-        wide_masks::set_logs,
-        wide_edges::width_logs,
-        wide_edges::cut_logs,
-        wide_edges::size_logs,
-        wide_edges::changed_logs,
-        identity::setup_logs,
-        identity::element_logs,
-        identity::order_logs,
-        identity_values::holder_key_logs,
-        identity_values::commitment_logs,
-        identity_values::mixed_logs,
-        rekeyed::rekeyed_logs,
-        count::bad_logs,
-    ];
-    for group in groups {
+    for group in GROUPS {
         group(&mut gathered, &mut rng);
     }
     gathered.logs

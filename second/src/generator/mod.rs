@@ -9,10 +9,11 @@
 //! - `course`: a draft that goes on, with refused records in between
 //! - `log_set`: logs gathered by kind
 //! - `edges`, `shifts`, `shift_edges`, `wide`, `wide_masks`, `wide_edges`,
-//!   `identity`, `identity_values`, `rekeyed`, `count`, `logs`: every kind of log
+//!   `identity`, `identity_values`, `rekeyed`, `count`, `waits`, `wait_edges`,
+//!   `wait_lengths`, `logs`: every kind of log
 //! - `request_set`: writer requests gathered, each with its intended number
 //! - `document_calls`, `value_calls`, `run_calls`, `shift_calls`, `wide_calls`,
-//!   `identity_calls`: every kind of writer request
+//!   `identity_calls`, `wait_calls`: every kind of writer request
 //! - `broken_calls`: broken requests, and streams that are cut or too long
 //! - `calls`: every stream of requests
 //! - `mask_streams`: every stream of masks
@@ -41,6 +42,10 @@ pub mod shift_edges;
 pub mod shifts;
 pub mod spoil;
 pub mod value_calls;
+pub mod wait_calls;
+pub mod wait_edges;
+pub mod wait_lengths;
+pub mod waits;
 pub mod wide;
 pub mod wide_calls;
 pub mod wide_edges;

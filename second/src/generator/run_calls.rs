@@ -150,7 +150,7 @@ pub fn re_values(gathered: &mut RequestSet, params: Params, rng: &mut Rng) {
 }
 
 /// A good RE request but for one share.
-fn with_share(draft: &Draft, dealer: Party, value: u32) -> Request {
+pub fn with_share(draft: &Draft, dealer: Party, value: u32) -> Request {
     let mut request = re_request(draft, draft.holders[0]);
     let Call::Re { shares, .. } = &mut request.call else { panic!("not RE") };
     shares[(dealer - 1) as usize] = value;

@@ -189,7 +189,7 @@ fn shifted_responses(rng: &mut Rng) -> Vec<u8> {
     let shift = rng.between(1, Q - 1);
     let draft = small_draft(rng).with_shift(Scalar::of(i64::from(shift)));
     let mut draft = draft_at(Stage::Responding, draft, rng);
-    let b = draft.params().combinations() as usize;
+    let b = draft.committee.combinations() as usize;
     while !draft.at_end() {
         let good = draft.next_record(rng);
         for places in [0..b, 0..1, b - 1..b] {

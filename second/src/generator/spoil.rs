@@ -1,7 +1,7 @@
 //! Records made to be refused, each with the number it must be refused with.
 
 use super::bytes::{get, put};
-use super::committee::{put_identity_key, KEY_PLACE};
+use super::committee::{as_sx, put_identity_key, KEY_PLACE};
 use super::committee::{random_params, random_scalar, random_wide_params};
 use super::draft::Draft;
 use crate::arith::{GroupNumber, Scalar, P, Q};
@@ -12,15 +12,16 @@ use crate::rng::Rng;
 use crate::run::Stage;
 
 /// The refusals that a whole record of the right stage can get, in the order
-/// of document 01, with 16 of request 2.3 directly after 7.
+/// of document 01, with 16 of request 2.3 directly after 7. SX has those of SU.
 fn faults_of(tag: Tag) -> &'static [Refusal] {
     use Refusal as R;
     match tag {
-        Tag::Su => &[R::Reserved, R::Bounds, R::Element, R::IdentityKey],
+        Tag::Su | Tag::Sx => &[R::Reserved, R::Bounds, R::Element, R::IdentityKey],
         Tag::De => &[R::Reserved, R::Party, R::Element, R::Scalar, R::Again],
         Tag::Ve => &[R::Reserved, R::Party, R::Mask, R::Again, R::FalseBlame],
         Tag::Ch | Tag::Cs => &[R::Reserved, R::Scalar],
         Tag::Re => &[R::Reserved, R::Party, R::Scalar, R::Again, R::Outsider, R::Response],
+        Tag::Go => &[R::Early],
     }
 }
 
@@ -30,6 +31,7 @@ fn possible_faults(draft: &Draft, tag: Tag) -> Vec<Refusal> {
         Refusal::Again => !senders(draft).is_empty(),
         Refusal::Mask => draft.params().n < draft.mask_bits(),
         Refusal::IdentityKey => draft.identity_keys,
+        Refusal::Early => draft.run.dealings.len() < draft.params().majority(),
         _ => true,
     };
     faults_of(tag).iter().copied().filter(possible).collect()
@@ -71,7 +73,7 @@ pub fn random_fault(draft: &Draft, rng: &mut Rng) -> (Vec<u8>, Refusal) {
     if alien_only || alien_possible && rng.chance(25) {
         return (random_alien(draft, rng), Refusal::Stage);
     }
-    let tag = random_taken(draft, rng);
+    let tag = random_faulty(draft, rng);
     let possible = possible_faults(draft, tag);
     let mut faults = vec![rng.below(possible.len())];
     if rng.chance(25) {
@@ -83,12 +85,14 @@ pub fn random_fault(draft: &Draft, rng: &mut Rng) -> (Vec<u8>, Refusal) {
     (faulty(draft, tag, &faults, rng), faults[0])
 }
 
-/// A tag that the stage takes; no lot is drawn where there is one alone.
-fn random_taken(draft: &Draft, rng: &mut Rng) -> Tag {
-    let taken = draft.taken_tags();
-    match taken[..] {
+/// A tag that the stage takes and that can have faults; no lot is drawn where there
+/// is one alone.
+fn random_faulty(draft: &Draft, rng: &mut Rng) -> Tag {
+    let mut faulty = draft.taken_tags();
+    faulty.retain(|&tag| !possible_faults(draft, tag).is_empty());
+    match faulty[..] {
         [tag] => tag,
-        _ => rng.pick(&taken),
+        _ => rng.pick(&faulty),
     }
 }
 
@@ -122,6 +126,7 @@ fn make_fault(draft: &Draft, fault: Refusal, record: &mut Vec<u8>, rng: &mut Rng
         Refusal::FalseBlame => blame_falsely(draft, record, rng),
         Refusal::Response => break_response(record, rng),
         Refusal::IdentityKey => put_identity_key(record),
+        Refusal::Early => {}
         _ => panic!("not a fault of a whole record"),
     }
 }
@@ -129,7 +134,7 @@ fn make_fault(draft: &Draft, fault: Refusal, record: &mut Vec<u8>, rng: &mut Rng
 /// Where the reserved byte stands; CH and CS have two.
 fn reserved_place(record: &[u8], rng: &mut Rng) -> usize {
     match Tag::of(record) {
-        Some(Tag::Su) => 5,
+        Some(Tag::Su | Tag::Sx) => 5,
         Some(Tag::Ch | Tag::Cs) => rng.pick(&[2, 3]),
         _ => 3,
     }
@@ -155,8 +160,10 @@ fn break_bounds(record: &mut Vec<u8>, most_parties: u32, rng: &mut Rng) {
 fn break_element(draft: &Draft, record: &mut [u8], rng: &mut Rng) {
     let t = draft.params().t as usize;
     let (first, count) = match Tag::of(record) {
-        Some(Tag::Su) if draft.identity_keys && get(record, KEY_PLACE) == 1 => (KEY_PLACE + 4, t),
-        Some(Tag::Su) => (KEY_PLACE, t + 1),
+        Some(Tag::Su | Tag::Sx) if draft.identity_keys && get(record, KEY_PLACE) == 1 => {
+            (KEY_PLACE + 4, t)
+        }
+        Some(Tag::Su | Tag::Sx) => (KEY_PLACE, t + 1),
         _ => (4, draft.params().quorum()),
     };
     let offset = first + 4 * edge_or_any(count, rng);
@@ -236,6 +243,7 @@ pub fn random_alien(draft: &Draft, rng: &mut Rng) -> Vec<u8> {
 pub fn alien(draft: &Draft, tag: Tag, rng: &mut Rng) -> Vec<u8> {
     match tag {
         Tag::Su => alien_setup(draft, rng),
+        Tag::Sx => as_sx(alien_setup(draft, rng)),
         Tag::De => draft.committee.de(rng.between(1, draft.params().n)),
         Tag::Ch => draft.committee.ch(rng),
         Tag::Cs => draft.committee.cs(random_scalar(rng), rng),

@@ -6,7 +6,7 @@ use super::request_set::{
 };
 use crate::arith::Q;
 use crate::params::Params;
-use crate::records::{setup_length, Tag};
+use crate::records::{dealing_length, setup_length};
 use crate::requests::{Call, Request};
 use crate::rng::Rng;
 
@@ -50,14 +50,14 @@ pub fn de_request(params: Triple, i: u8, values: Vec<u32>, buffer_length: usize)
 pub fn good_su(params: Params, rng: &mut Rng) -> Request {
     let committee = Committee::random(params, rng);
     let key_values = as_numbers(&committee.key_values);
-    let length = Tag::Su.length(&params);
+    let length = setup_length(params.t as u8);
     su_request(as_bytes(params), committee.secret.number(), key_values, length)
 }
 
 pub fn good_de(params: Params, rng: &mut Rng) -> Request {
     let i = rng.between(1, params.n);
     let values = as_numbers(&Committee::random(params, rng).dealings[0]);
-    de_request(as_bytes(params), i as u8, values, Tag::De.length(&params))
+    de_request(as_bytes(params), i as u8, values, dealing_length(&params))
 }
 
 pub fn su_requests(gathered: &mut RequestSet, rng: &mut Rng) {

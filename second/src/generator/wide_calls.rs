@@ -12,7 +12,7 @@ use super::value_calls::{
 use super::wide::{draft_of, INSIDE, LIGHT, OUTSIDE};
 use super::wide_masks::{draft_hearing, marked};
 use crate::params::{Params, Party};
-use crate::records::Tag;
+use crate::records::dealing_length;
 use crate::rng::Rng;
 use crate::run::Stage;
 
@@ -48,7 +48,7 @@ fn dealings(gathered: &mut RequestSet, rng: &mut Rng) {
     let good = good_de(params_of((64, 15, 10)), rng);
     de_spoiled(gathered, &good, &OUTSIDE, rng);
     for (n, t, a) in LIGHT {
-        let length = Tag::De.length(&params_of((n, t, a)));
+        let length = dealing_length(&params_of((n, t, a)));
         for i in [0, 1, 32, 33, 34, 63, 64, 65, 255] {
             let number = if (1..=n).contains(&i) { 0 } else { 5 };
             gathered.add(de_request((n, t, a), i, vec![7, 8], length), number);

@@ -1,7 +1,8 @@
 -- `batch_fits` meets its contract: each test settles one factor of the definition. Assumes nothing.
 use borrow.Author.Needs.{needs}
 use borrow.Author.Tests.{le-leb, lt-leb, eq-eqb, ne-eqb}
-use mathlib.Core.Path.{refl}
+use mathlib.Core.Path.{ap}
+use lib.Dec.{eqb}
 use Prim.Native.Nat.{_-_}
 use Rattle.run.specs.Runs.{batchFits}
 use Rattle.run.proofs.batch_fits.Statement.{statement}
@@ -21,7 +22,9 @@ batch-requires c κs = search needs
 
 returns-2 : tie.Need-returns-2
 unfolding batchFits
-returns-2 c = rw (lt-leb _ 1 (c .before .before .if1 .taken), le-leb _ _ (c .before .if2 .left), ← c .batch .ensures) refl
+returns-2 c =
+    let a = c .before .before .before .args in
+    rw (lt-leb _ 1 (c .before .before .if1 .taken), le-leb (a .n - a .t) (a .m) (c .before .if2 .left)) (ap (eqb (a .b)) (c .batch .ensures))
 
 returns-3 : tie.Need-returns-3
 unfolding batchFits
@@ -35,7 +38,9 @@ batch-requires-2 c κs = search needs
 
 returns-4 : tie.Need-returns-4
 unfolding batchFits
-returns-4 c = rw (le-leb _ 1 (c .before .before .if1 .left), ne-eqb _ _ (c .before .if3 .left), ← c .batch2 .ensures) refl
+returns-4 c =
+    let a = c .before .before .before .args in
+    rw (le-leb _ 1 (c .before .before .if1 .left), ne-eqb (a .b) 0 (c .before .if3 .left)) (ap (eqb (a .b)) (c .batch2 .ensures))
 
 pub batch-fits-spec : {M : Type 1} → statement M
 batch-fits-spec = tie.close (tie.spec sub-if2 returns batch-requires returns-2 returns-3 sub-batch batch-requires-2 returns-4)

@@ -1,6 +1,7 @@
 -- `Run::take_setup` meets its contract. Assumes nothing.
 use borrow.Author.Needs.{needs}
-use mathlib.Core.Path.{sym, ap, ap₂, _∙_}
+use mathlib.Core.Path.{_≡_, sym, ap, ap₂, _∙_}
+use mathlib.Core.Bool.{true, false}
 use Prim.Native.Nat.{_-_}
 use native.Mathlib.Omega.{arith}
 use Rattle.parameters.specs.Definitions.{batch}
@@ -37,8 +38,9 @@ unfolding afterSetup begunBatch
 returns-2 c =
     let setup = c .before .before .before in
     let passed = setup .before in
+    let waits : passed .before .before .before .args .waits ≡ true = c .before .before .if2 .taken in
     c .answer2 .ensures
-    ∙ rw (c .before .before .if2 .taken) (accepted-by (passed .before .setup-refusal .ensures) _ (passed .if1 .left) (c .before .begun .ensures ∙ ap (begun 1 0) (setup .read .ensures)))
+    ∙ rw waits (accepted-by (passed .before .setup-refusal .ensures) _ (passed .if1 .left) (c .before .begun .ensures ∙ ap (begun 1 0) (setup .read .ensures)))
 
 -- n is at least t
 sub-batch : tie.Need-sub-batch
@@ -65,8 +67,9 @@ returns-3 c =
     let else = b .before .before in
     let setup = else .before in
     let passed = setup .before in
+    let fixed : passed .before .before .before .args .waits ≡ false = else .if2 .left in
     c .answer3 .ensures
-    ∙ rw (else .if2 .left) (accepted-by (passed .before .setup-refusal .ensures) _ (passed .if1 .left)
+    ∙ rw fixed (accepted-by (passed .before .setup-refusal .ensures) _ (passed .if1 .left)
     (c .before .begun2 .ensures ∙ ap₂ (begun 1) (b .batch .ensures ∙ ap (λ (x : Setup). batch (x .n - x .t) (x .t)) (setup .read .ensures)) (setup .read .ensures)))
 
 pub take-setup-spec : {M : Type 1} → statement M
