@@ -1,5 +1,5 @@
 // Prints cases A to L of document 01, each on a line that begins with its letter: what the run replies to the records of the case, one number each, or what the
-// arithmetic gives; then document 02's: the worked log with a shift, committees of 33 and more, a key that is the identity; last the replies to records that are none.
+// arithmetic gives; then document 02's: the worked log with a shift, committees of 33 and more, a key that is the identity, a run that waits for more dealers; last the replies to records that are none.
 use console::end_line;
 use console::print_number;
 use console::print_test;
@@ -60,13 +60,18 @@ fn deal_third(run: Run, right: bool) -> Run {
     )
 }
 
-// The worked log up to the dealings.
-fn deal(second_right: bool, third_right: bool) -> Run {
-    let begun = give(
-        set_up(),
+// The three dealings of the worked log.
+fn deal_three(begun: Run, second_right: bool, third_right: bool) -> Run {
+    let first = give(
+        begun,
         b"DE\x01\x00\x00\x00\x00\x01\x00\x00\x00\x04\x00\x00\x00\x01\x00\x00\x00\x02\x00\x00\x00\x03\x00\x00\x00\x04",
     );
-    deal_third(deal_second(begun, second_right), third_right)
+    deal_third(deal_second(first, second_right), third_right)
+}
+
+// The worked log up to the dealings.
+fn deal(second_right: bool, third_right: bool) -> Run {
+    deal_three(set_up(), second_right, third_right)
 }
 
 // Up to the complaint rows, with one from holder 2.
@@ -220,6 +225,43 @@ fn identity() {
     end_line();
 }
 
+// Dealer 4 deals 1 + 2x.
+fn deal_fourth(run: Run) -> Run {
+    give(
+        run,
+        b"DE\x04\x00\x00\x00\x00\x04\x00\x00\x00\x40\x00\x00\x00\x03\x00\x00\x00\x05\x00\x00\x00\x07\x00\x00\x00\x09",
+    )
+}
+
+// The worked log begun by SX, with a fourth dealing, so that there is a third signature. GO is refused in a run begun by SU, before n-t dealings, with a
+// byte behind it, and a second time; the dealing of dealer 4 a second time.
+fn waited() {
+    begin_line(b"wait ");
+    give(set_up(), b"GO\x00");
+    let begun = give(
+        Run::fresh(),
+        b"SX\x04\x01\x01\x00\x00\x00\x00\x04\x00\x00\x00\x10",
+    );
+    give(begun, b"GO");
+    give(begun, b"GO\x00");
+    let four = deal_fourth(deal_three(begun, true, true));
+    deal_fourth(four);
+    let gone = give(four, b"GO");
+    give(gone, b"GO");
+    let run = give(
+        hold(gone, b"VE\x02\x00\x00\x00\x00\x00"),
+        b"CH\x00\x00\x00\x00\x00\x01\x00\x00\x00\x02\x00\x00\x00\x03",
+    );
+    let one = give(
+        run,
+        b"RE\x02\x00\x00\x00\x00\x0f\x00\x00\x00\x2a\x00\x00\x00\x83",
+    );
+    say(give(
+        one,
+        b"RE\x03\x00\x00\x00\x00\x14\x00\x00\x00\x38\x00\x00\x00\xb0",
+    ));
+}
+
 // Records that are none: no byte, one byte, a tag alone, no tag, and a setup that is late.
 fn senseless() {
     begin_line(b"none ");
@@ -243,5 +285,6 @@ fn main() {
     shifted();
     wide();
     identity();
+    waited();
     senseless();
 }
