@@ -19,7 +19,7 @@ pub struct Complaints {
 }
 
 // Whether each dealer that a mask blames has a dealing whose share for j is not valid.
-fn blames_rightly(dealings: Dealings, n: u8, j: u8, mask: u64) -> bool
+pub fn blames_rightly(dealings: Dealings, n: u8, j: u8, mask: u64) -> bool
     ensures { λ r. ⌜ r ≡ allTo n (λ i. not (has mask (i + 1)) || mayBlame dealings j (i + 1)) ⌝ }
 {
     for i in 0..n {

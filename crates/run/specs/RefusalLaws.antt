@@ -1,4 +1,4 @@
--- A refusal leaves the run as it was, and one that is found without the run's lists is the step's. Assumes nothing.
+-- A refusal leaves the run as it was, and one that is found without a step is the step's. Assumes nothing.
 use mathlib.Core.Path.{_≡_, refl}
 use mathlib.Core.Bool.{Bool, true, false}
 use mathlib.Core.List.{List}
@@ -46,17 +46,17 @@ refusal-keeps r s = go (handlerAt (tagOf s) (stageOf r))
 answered-number : (r : Run) {k m : ℕ} (next : Run) → (k ≡ 0 → ⊥) → m ≡ k → answered r m next ≡ refused r k
 answered-number r {k} next n e = rw (e, ne-eqb k 0 n)
 
--- a refusal found before the last tests are asked is the whole one
-stops : (k : ℕ) (b : Bool) (m rest : ℕ) → (orNext k (require b m 0) ≡ 0 → ⊥) → orNext k (require b m rest) ≡ orNext k (require b m 0)
+-- two tests asked one after the other, or in a row
+pub asked-last : (k : ℕ) (b : Bool) (m x : ℕ) → 0 < m → orNext (orNext k (require b m 0)) x ≡ orNext k (require b m x)
 unfolding orNext require
-stops k b m rest n = go (eqb k 0) b n
+asked-last k b m x p = go (eqb k 0) refl b
   where
-    go : (d b : Bool) → (pick d (require b m 0) k ≡ 0 → ⊥) → pick d (require b m rest) k ≡ pick d (require b m 0) k
-    go true true n = absurd (n refl)
-    go true false n = refl
-    go false b n = refl
+    go : (d : Bool) → eqb k 0 ≡ d → (b : Bool) → orNext (pick d (require b m 0) k) x ≡ pick d (require b m x) k
+    go true e true = refl
+    go true e false = rw (ne-eqb m 0 (λ z. omega arith))
+    go false e b = rw e
 
--- and so where two are asked
+-- a refusal found before the last test is asked is the whole one
 stops-twice : (k : ℕ) (b c : Bool) (m₁ m₂ rest : ℕ) → 0 < m₁ → (orNext (orNext k (require b m₁ 0)) (require c m₂ 0) ≡ 0 → ⊥)
     → orNext k (require b m₁ (require c m₂ rest)) ≡ orNext (orNext k (require b m₁ 0)) (require c m₂ 0)
 unfolding orNext require
@@ -70,7 +70,7 @@ stops-twice k b c m₁ m₂ rest p n = go (eqb k 0) refl b c n
     go false e b c n = rw e
 
 pub untaken-refused : (r : Run) (s : List ℕ) → (untaken r s ≡ 0 → ⊥) → stepOf r s ≡ refused r (untaken r s)
-unfolding untaken stepOf handled untakenBy dealingNumber complaintNumber responseNumber
+unfolding untaken stepOf handled untakenBy dealingNumber responseNumber
 untaken-refused r s = go (handlerAt (tagOf s) (stageOf r))
   where
     go : (h : Handler) → (untakenBy h r s ≡ 0 → ⊥) → handled h r s ≡ refused r (untakenBy h r s)
@@ -78,7 +78,7 @@ untaken-refused r s = go (handlerAt (tagOf s) (stageOf r))
     go TakeWaiting n = answered-number r _ n refl
     go TakeDealing n = answered-number r _ n refl
     go TakeGo n = answered-number r _ n refl
-    go TakeComplaint n = answered-number r _ n (stops _ _ 12 _ n)
+    go TakeComplaint n = answered-number r _ n refl
     go TakeChallenges n = answered-number r _ n refl
     go TakeShifted n = answered-number r _ n refl
     go TakeResponse n = answered-number r _ n (stops-twice _ _ _ 12 14 _ (omega arith) n)

@@ -9,7 +9,7 @@ use Rattle.sets.specs.Masks.{has}
 use Rattle.parameters.specs.Definitions.{quorum, batch}
 use Rattle.records.specs.Bytes.{sender}
 use Rattle.records.specs.Tags.{tagOf}
-use Rattle.refusals.specs.Refusals.{setupRefusal, complaintRefusal, challengesRefusal, shiftedRefusal, responseRefusal}
+use Rattle.refusals.specs.Refusals.{setupRefusal, challengesRefusal, shiftedRefusal, responseRefusal}
 use Rattle.dealing.specs.Definitions.{setupOf, begunBatch, dealingNumber, withDealing, dealingStage, goNumber}
 use Rattle.complaint.specs.Definitions.{complaintNumber, withComplaint, complaintStage}
 use Rattle.response.specs.Definitions.{responseNumber, withResponse, signaturesOf}
@@ -93,13 +93,13 @@ handled (Refuse k) r s = refused r k
 unfoldable pub stepOf : Run → List ℕ → Reply
 stepOf r s = handled (handlerAt (tagOf s) (stageOf r)) r s
 
--- a refusal that needs none of the run's lists, or 0: every number but 13 and 15
+-- a refusal that needs no response row to be tested, or 0: every number but 15
 unfoldable pub untakenBy : Handler → Run → List ℕ → ℕ
 untakenBy TakeSetup r s = setupRefusal s
 untakenBy TakeWaiting r s = setupRefusal s
 untakenBy TakeDealing r s = dealingNumber (r .setup) (r .dealings) s
 untakenBy TakeGo r s = goNumber (r .setup .n) (r .setup .t) (r .dealings .count) (r .b) s
-untakenBy TakeComplaint r s = orNext (complaintRefusal (r .setup .n) s) (require (not (has (r .complaints .holders) (sender s))) 12 0)
+untakenBy TakeComplaint r s = complaintNumber (r .setup) (r .dealings) (r .complaints) s
 untakenBy TakeChallenges r s = challengesRefusal (r .setup .a) (r .b) s
 untakenBy TakeShifted r s = shiftedRefusal (r .setup .a) (r .b) s
 untakenBy TakeResponse r s =

@@ -323,7 +323,7 @@ impl Run {
         }
     }
 
-    // A refusal that needs none of the run's lists, so that the run is not copied: every number but 13 and 15. Else 0.
+    // A refusal that needs no response row to be tested, so that the run is not copied: every number but 15. Else 0.
     pub fn untaken(self, bytes: &[u8]) -> u8
         ensures { λ r. ⌜ r ≡ untaken self (now (bytes .entry)) ⌝ }
     {
@@ -343,7 +343,10 @@ impl Run {
             Handler::TakeGo => dealing::go_number(n, t, self.dealings.count, b, bytes),
             Handler::TakeComplaint => {
                 let number = refusals::complaint_refusal(n, bytes);
-                or_next(number, !sets::has(self.complaints.holders, j), 12)
+                let sent = or_next(number, !sets::has(self.complaints.holders, j), 12);
+                let dealings = self.dealings;
+                let mask = records::mask(n, bytes);
+                or_next(sent, complaint::blames_rightly(dealings, n, j, mask), 13)
             }
             Handler::TakeChallenges => refusals::challenges_refusal(a, b, bytes),
             Handler::TakeShifted => refusals::shifted_refusal(a, b, bytes),

@@ -1,9 +1,12 @@
--- `Run::untaken` meets its contract: for each handler the refusals that need no list of the run. Assumes nothing.
+-- `Run::untaken` meets its contract: for each handler the refusals but 15. Assumes nothing.
 use borrow.Author.Needs.{needs}
 use mathlib.Core.Path.{_≡_, sym, ap, _∙_}
+use native.Mathlib.Omega.{arith}
 use Rattle.dealing.specs.Definitions.{dealingNumber}
+use Rattle.complaint.specs.Definitions.{complaintNumber}
 use Rattle.stages.specs.declared.Handler.{Handler}
 use Rattle.run.specs.Steps.{untakenBy, untaken}
+use Rattle.run.specs.RefusalLaws.{asked-last}
 use Rattle.run.proofs.Stages.{untaken-by}
 use Rattle.run.proofs.Run.untaken.Statement.{statement}
 use Rattle.run.proofs.Run.untaken.Tie as tie
@@ -71,6 +74,15 @@ has-requires-2 c κs = search needs
 or-next-requires-2 : tie.Need-or-next-requires-2
 or-next-requires-2 c κs = search needs
 
+mask-requires : tie.Need-mask-requires
+mask-requires c κs = search needs
+
+blames-rightly-requires : tie.Need-blames-rightly-requires
+blames-rightly-requires c κs = search needs
+
+or-next-requires-3 : tie.Need-or-next-requires-3
+or-next-requires-3 c κs = search needs
+
 enum-told-6 : tie.Need-enum-told-6
 enum-told-6 c = search needs
 
@@ -92,14 +104,14 @@ response-refusal-requires c κs = search needs
 has-requires-3 : tie.Need-has-requires-3
 has-requires-3 c κs = search needs
 
-or-next-requires-3 : tie.Need-or-next-requires-3
-or-next-requires-3 c κs = search needs
+or-next-requires-4 : tie.Need-or-next-requires-4
+or-next-requires-4 c κs = search needs
 
 has-requires-4 : tie.Need-has-requires-4
 has-requires-4 c κs = search needs
 
-or-next-requires-4 : tie.Need-or-next-requires-4
-or-next-requires-4 c κs = search needs
+or-next-requires-5 : tie.Need-or-next-requires-5
+or-next-requires-5 c κs = search needs
 
 enum-known-handler : tie.Need-enum-known-handler
 enum-known-handler c = search needs
@@ -126,13 +138,16 @@ unfolding untakenBy
 returns-4 c = c .go-number .ensures ∙ answer (c .before .before .before) (c .before .enum-told4 .given .1)
 
 returns-5 : tie.Need-returns-5
-unfolding untakenBy
+unfolding untakenBy complaintNumber
 returns-5 c =
-    let refusal = c .before .before in
+    let mask = c .before .before in
+    let sent = mask .before .before in
+    let refusal = sent .before .before in
     let told = refusal .before in
     let taken = told .before .before in
-    c .or-next2 .ensures
-    ∙ rw (refusal .complaint-refusal .ensures, c .before .has2 .ensures, taken .before .before .before .byte .ensures) (answer taken (told .enum-told5 .given .1))
+    c .or-next3 .ensures
+    ∙ rw (sent .or-next2 .ensures, refusal .complaint-refusal .ensures, sent .before .has2 .ensures, c .before .blames-rightly .ensures, mask .mask .ensures, taken .before .before .before .byte .ensures)
+    (asked-last _ _ 12 _ (omega arith) ∙ answer taken (told .enum-told5 .given .1))
 
 returns-6 : tie.Need-returns-6
 unfolding untakenBy
@@ -149,8 +164,8 @@ returns-8 c =
     let refusal = sent .before .before in
     let told = refusal .before in
     let taken = told .before .before in
-    c .or-next4 .ensures
-    ∙ rw (sent .or-next3 .ensures, refusal .response-refusal .ensures, sent .before .has3 .ensures, c .before .has4 .ensures, taken .before .before .before .byte .ensures)
+    c .or-next5 .ensures
+    ∙ rw (sent .or-next4 .ensures, refusal .response-refusal .ensures, sent .before .has3 .ensures, c .before .has4 .ensures, taken .before .before .before .byte .ensures)
     (answer taken (told .enum-told8 .given .1))
 
 returns-9 : tie.Need-returns-9
@@ -179,6 +194,9 @@ untaken-spec =
     complaint-refusal-requires
     has-requires-2
     or-next-requires-2
+    mask-requires
+    blames-rightly-requires
+    or-next-requires-3
     enum-told-6
     challenges-refusal-requires
     enum-told-7
@@ -186,9 +204,9 @@ untaken-spec =
     enum-told-8
     response-refusal-requires
     has-requires-3
-    or-next-requires-3
-    has-requires-4
     or-next-requires-4
+    has-requires-4
+    or-next-requires-5
     enum-known-handler
     returns
     returns-2
