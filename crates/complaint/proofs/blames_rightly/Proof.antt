@@ -45,12 +45,14 @@ returns c =
     let blamed = c .before .before in
     let l = blamed .before .before .before in
     let a = l .before .args in
+    let masked : blamed .before .has .result ≡ has (a .mask) (l .loop .i + 1) = blamed .before .has .ensures in
+    let may : c .before .may-blame .result ≡ mayBlame (a .dealings) (a .j) (l .loop .i + 1) = c .before .may-blame .ensures in
     let here : allTo (l .loop .i + 1) (rightly (a .dealings) (a .j) (a .mask)) ≡ false =
     all-next (l .loop .i) _
     ∙ rw (
-      ← blamed .before .has .ensures,
+      ← masked,
       blamed .if1 .taken,
-      ← c .before .may-blame .ensures,
+      ← may,
       not-true (c .before .may-blame .result) (c .if2 .taken),
       and-false,
     ) in
