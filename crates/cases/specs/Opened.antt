@@ -23,7 +23,7 @@ use Rattle.run.specs.Runs.{noScalars, begun, fresh, batchFits, wellFormed, stag
 use Rattle.answers.specs.Answers.{setsOf, unblamedOf, badOf, noSets, keptSets}
 use Rattle.log.specs.Cutting.{ownLength, byBatch, lengthAt, lengthOf, whole, cutFrom, recordsOf, runOf}
 use Rattle.text.specs.Lines.{decimalTo, decimal, field, fields, line, setText, setLine}
-use Rattle.closing.specs.Closing.{signatureLine, signatureLines, closing}
+use Rattle.closing.specs.Closing.{signatureLine, signatureLines, setLines, closing}
 use Rattle.log.specs.Report.{refusalLine, refusalLines, reportOf}
 use Rattle.run.specs.Steps.{afterSetup, afterDealing, afterGo, afterComplaint, afterChallenges, afterShifted, withRow, finished, afterResponse, handled, stepOf, afterFrom, after}
 use Rattle.stages.specs.Definitions.{takenAt, atStage, handlerAt}
@@ -51,7 +51,7 @@ unfolding flatten
     setsOf unblamedOf badOf noSets keptSets
     ownLength byBatch lengthAt lengthOf whole cutFrom recordsOf runOf
     decimalTo decimal field fields line setText setLine
-    signatureLine signatureLines closing
+    signatureLine signatureLines setLines closing
     refusalLine refusalLines reportOf
     afterSetup afterDealing afterGo afterComplaint afterChallenges afterShifted withRow finished afterResponse takenAt atStage handlerAt handled stepOf afterFrom after
     setupRefused

@@ -28,9 +28,13 @@ sigWord = 115 ∷ 105 ∷ 103 ∷ []
 abbrev pub endWord : List ℕ
 endWord = 101 ∷ 110 ∷ 100 ∷ []
 
--- the most bytes of a set's line, of a line `sig u k R φ`, of all such lines, of the last line, and of all that a page says of its run
+-- the most bytes of a set's line, of the lines of all three, of a line `sig u k R φ`, of all such lines, of the last line, and of all that a page
+-- says of its run
 abbrev pub mostSet : ℕ
 mostSet = 11 * mostParties + 7
+
+abbrev pub mostSets : ℕ
+mostSets = 3 * mostSet
 
 abbrev pub mostLine : ℕ
 mostLine = 48
@@ -42,7 +46,7 @@ abbrev pub mostEnd : ℕ
 mostEnd = 15
 
 abbrev pub mostClosing : ℕ
-mostClosing = 3 * mostSet + mostLines + mostEnd
+mostClosing = mostSets + mostLines + mostEnd
 
 -- the line `sig u k R φ`
 abbrev pub sigLine : ℕ → ℕ → Element → Scalar → List ℕ
@@ -57,11 +61,16 @@ unfoldable pub signatureLines : Run → ℕ → List ℕ
 signatureLines r zero = []
 signatureLines r (suc x) = signatureLines r x ++ signatureLine r (x / r .setup .a + 1) (x % r .setup .a + 1)
 
+-- HOLD, QUAL and BAD
+unfoldable pub setLines : Run → List ℕ
+setLines r =
+    setLine holdWord (r .setup .n) (setsOf r .hold)
+    ++ (setLine qualWord (r .setup .n) (setsOf r .qual)
+    ++ setLine badWord (r .setup .n) (setsOf r .bad))
+
 -- the sets, at stage 5 every signature, and the stage
 unfoldable pub closing : Run → List ℕ
 closing r =
-    setLine holdWord (r .setup .n) (setsOf r .hold)
-    ++ (setLine qualWord (r .setup .n) (setsOf r .qual)
-    ++ (setLine badWord (r .setup .n) (setsOf r .bad)
+    setLines r
     ++ (pick (eqb (stageOf r) 5) (signatureLines r (r .setup .a * r .b)) []
-    ++ line endWord (stageOf r ∷ []))))
+    ++ line endWord (stageOf r ∷ []))

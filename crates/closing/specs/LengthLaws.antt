@@ -14,7 +14,7 @@ use Rattle.run.specs.declared.Run.{Run}
 use Rattle.run.specs.Runs.{stageOf}
 use Rattle.run.specs.RunLaws.{formed-of, formed-batch, stage-live}
 use Rattle.answers.specs.Answers.{setsOf}
-use Rattle.closing.specs.Closing.{holdWord, qualWord, badWord, endWord, mostLines, mostClosing, signatureLines, closing}
+use Rattle.closing.specs.Closing.{holdWord, qualWord, badWord, endWord, mostSets, mostLines, mostClosing, signatureLines, setLines, closing}
 use Rattle.closing.specs.SignatureLaws.{signatures-max}
 
 -- at stage 5 the lines of all signatures
@@ -25,16 +25,12 @@ signed-max r =
     (λ e. let formed = formed-of r (stage-live r 5 (eqb-true _ _ e) (omega arith) (omega arith) .1) in omega (arith, signatures-max r m, cells-max (formed .bounds) (formed-batch formed)))
     (λ e. omega arith)
 
+pub sets-max : (r : Run) → r .setup .n ≤ mostParties → length (setLines r) ≤ mostSets
+unfolding setLines
+sets-max r h =
+    let n = r .setup .n in
+    simp length-append (omega (arith, setLine-max holdWord n (setsOf r .hold), setLine-max qualWord n (setsOf r .qual), setLine-max badWord n (setsOf r .bad)))
+
 pub closing-max : (r : Run) → r .setup .n ≤ mostParties → length (closing r) ≤ mostClosing
 unfolding closing
-closing-max r h =
-    let n = r .setup .n in
-    simp length-append
-    (omega (
-      arith,
-      signed-max r,
-      setLine-max holdWord n (setsOf r .hold),
-      setLine-max qualWord n (setsOf r .qual),
-      setLine-max badWord n (setsOf r .bad),
-      line-max endWord (stageOf r ∷ []),
-    ))
+closing-max r h = simp length-append (omega (arith, sets-max r h, signed-max r, line-max endWord (stageOf r ∷ [])))

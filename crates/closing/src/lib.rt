@@ -7,7 +7,7 @@ ghost use Rattle.parameters.specs.Definitions.{mostParties};
 ghost use Rattle.text.specs.Texts.{Wrote};
 ghost use Rattle.combination.specs.Combination.{powersAt};
 ghost use Rattle.run.specs.Runs.{wellFormed};
-ghost use Rattle.closing.specs.Closing.{mostLine, mostLines, mostClosing, sigLine, signatureLines, closing};
+ghost use Rattle.closing.specs.Closing.{mostSets, mostLine, mostLines, mostClosing, sigLine, signatureLines, setLines, closing};
 ghost use Rattle.closing.specs.SignatureLaws.{rowLines};
 use field::Element;
 use field::Scalar;
@@ -63,17 +63,25 @@ fn put_signatures(out: &mut [u8], at: usize, run: Run) -> usize
     next
 }
 
+// The lines hold, qual and bad.
+pub fn put_sets(out: &mut [u8], at: usize, run: Run) -> usize
+    requires { ⌜ (run .setup .n ≤ mostParties) × (at + mostSets ≤ length (now out)) ⌝ }
+    ensures { λ r. ⌜ Wrote (now (out .entry)) (now (out .exit)) at r (setLines run) ⌝ }
+{
+    let n = run.setup.n;
+    let fixed = answers::sets_of(run);
+    let hold = text::put_set(out, at, b"hold", n, fixed.hold);
+    let qual = text::put_set(out, hold, b"qual", n, fixed.qual);
+    text::put_set(out, qual, b"bad", n, fixed.bad)
+}
+
 // The sets, at stage 5 every signature, and the stage.
 pub fn put_closing(out: &mut [u8], at: usize, run: Run) -> usize
     requires { ⌜ (run .setup .n ≤ mostParties) × (at + mostClosing ≤ length (now out)) ⌝ }
     ensures { λ r. ⌜ Wrote (now (out .entry)) (now (out .exit)) at r (closing run) ⌝ }
 {
-    let n = run.setup.n;
     let stage = run.stage_of();
-    let fixed = answers::sets_of(run);
-    let hold = text::put_set(out, at, b"hold", n, fixed.hold);
-    let qual = text::put_set(out, hold, b"qual", n, fixed.qual);
-    let mut next = text::put_set(out, qual, b"bad", n, fixed.bad);
+    let mut next = put_sets(out, at, run);
     if stage == 5 {
         next = put_signatures(out, next, run);
     }

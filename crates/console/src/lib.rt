@@ -1,4 +1,5 @@
 // Standard input and output, as the programs use them.
+use libc::STDERR_FILENO;
 use libc::STDIN_FILENO;
 use libc::STDOUT_FILENO;
 
@@ -25,4 +26,27 @@ pub fn print_test(passed: bool) {
 
 pub fn end_line() {
     io::write_all(STDOUT_FILENO, b"\n");
+}
+
+// What a program could not do, on standard error, after its name.
+pub fn say(program: &[u8], what: &[u8]) {
+    io::write_all(STDERR_FILENO, program);
+    io::write_all(STDERR_FILENO, b": ");
+    io::write_all(STDERR_FILENO, what);
+    io::write_all(STDERR_FILENO, b"\n");
+}
+
+// Writes the first size bytes of a program's page; there is no page of 0 bytes.
+pub fn write_page(program: &[u8], page: &[u8], size: usize) {
+    if size == 0 {
+        say(program, b"the page could not be made");
+        return;
+    }
+    if page.len() < size {
+        say(program, b"the page could not be made");
+        return;
+    }
+    if !io::write_all(STDOUT_FILENO, &page[..size]) {
+        say(program, b"the page could not be written whole");
+    }
 }

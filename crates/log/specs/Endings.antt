@@ -88,7 +88,7 @@ pub short-unknown : (s : List ℕ) → length s < 2 → tagOf s ≡ unknown
 unfolding tagOf
 short-unknown s l = rw (lt-ltb (length s) 2 l)
 
-known-long : (s : List ℕ) → tagOf s ≢ unknown → 2 ≤ length s
+pub known-long : (s : List ℕ) → tagOf s ≢ unknown → 2 ≤ length s
 known-long s d = go (decLt (length s) 2)
   where
     go : Dec (length s < 2) → 2 ≤ length s
@@ -123,7 +123,7 @@ stage-refused r s d e = step-tag (tagOf s) r s refl ∙ ap (λ (h : Handler). ha
 
 -- ---- no setup yet, and a known tag other than SU and SX
 
-stage-first : (r : Run) → stageOf r ≡ 0 → r .stage ≡ 0
+pub stage-first : (r : Run) → stageOf r ≡ 0 → r .stage ≡ 0
 stage-first r e = go (ℕ-discrete (r .stage) 0)
   where
     go : Dec (r .stage ≡ 0) → r .stage ≡ 0
@@ -168,7 +168,7 @@ no-batch : (b size : ℕ) → b ≡ 0 → byBatch b size ≡ 0
 unfolding byBatch
 no-batch b size z = rw z
 
-waits-length : (b : Bool) (r : Run) (size : ℕ) → r .b ≡ 0 → pick b 0 (byBatch (r .b) size) ≡ 0
+pub waits-length : (b : Bool) (r : Run) (size : ℕ) → r .b ≡ 0 → pick b 0 (byBatch (r .b) size) ≡ 0
 waits-length b r size z = pick-case (λ (n : ℕ). n ≡ 0) b 0 (byBatch (r .b) size) (λ e. refl) (λ e. no-batch (r .b) size z)
 
 pub before-go-last : (r : Run) (s : List ℕ) → BeforeGo r s → (recordsFrom r s ≡ s ∷ []) × (stepOf r s ≡ refused r 11)

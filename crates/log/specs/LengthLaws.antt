@@ -27,7 +27,7 @@ use Rattle.log.specs.TurnLaws.{whole-pos, next-pos, next-max, lines-none
 -- ---- a whole record has at least 2 bytes
 
 -- a length that is there
-abbrev AtLeast : ℕ → Type 0
+abbrev pub AtLeast : ℕ → Type 0
 AtLeast n = 1 ≤ n → 2 ≤ n
 
 unless : (b : Bool) (n : ℕ) → AtLeast n → AtLeast (pick b 0 n)
@@ -41,7 +41,7 @@ fixed-least : (r : Run) (n : ℕ) → AtLeast n → AtLeast (pick (eqb (r .stage
 unfolding byBatch
 fixed-least r n l = unless (eqb (r .stage) 0) (byBatch (r .b) n) (unless (eqb (r .b) 0) n l)
 
-least-at : (tag : Tag) (r : Run) (s : List ℕ) → AtLeast (lengthAt tag r s)
+pub least-at : (tag : Tag) (r : Run) (s : List ℕ) → AtLeast (lengthAt tag r s)
 unfolding lengthAt ownLength byBatch setupLength dealingLength complaintLength challengesLength shiftedLength responseLength
 least-at SU r s = own-least s
 least-at SX r s = own-least s

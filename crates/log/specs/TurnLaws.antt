@@ -3,10 +3,10 @@ use mathlib.Core.Path.{_≡_, refl, ap}
 use mathlib.Core.Bool.{Bool, true, false}
 use mathlib.Core.Logic.{_≢_}
 use mathlib.Core.List.{List, [], _∷_, _++_}
-use Prim.Native.Nat.{ℕ, zero, suc, _+_, _≤_, _<_}
+use Prim.Native.Nat.{ℕ, zero, suc, _+_, _-_, _≤_, _<_}
 use native.Mathlib.Omega.{arith}
 use lib.ListN.{length, take, drop, length-drop}
-use lib.Seq.{take-length, drop-length}
+use lib.Seq.{take-all, take-length, drop-length}
 use lib.Dec.{eqb, leb}
 use borrow.Author.Tests.{leb-true, eq-eqb, ne-eqb}
 use Rattle.lists.specs.Tests.{pick}
@@ -49,6 +49,10 @@ next-pos r s p = pick-case (λ (n : ℕ). 0 < n) (whole r s) (lengthOf r s) (len
 pub next-max : (r : Run) (s : List ℕ) → nextLength r s ≤ length s
 unfolding nextLength
 next-max r s = pick-case (λ (n : ℕ). n ≤ length s) (whole r s) (lengthOf r s) (length s) (λ e. whole-max r s e) (λ e. omega arith)
+
+-- what is left of a log, as the code lends it
+pub left-is : (log : List ℕ) (from : ℕ) → take (length log - from) (drop from log) ≡ drop from log
+left-is log from = take-all (length log - from) (drop from log) (omega (arith, length-drop from log))
 
 -- ---- records, turn by turn
 

@@ -131,11 +131,16 @@ module _ (l : List (List ℕ)) where
       let k = x % read l .a + 1 in
       signedLines x ++ sigLine u k (shiftedNonce (read l) u k) (shiftedPhi l u k)
 
+  -- HOLD, QUAL and BAD
+  unfoldable pub memberLines : List ℕ
+  memberLines =
+      membersLine holdWord (hold l)
+      ++ (membersLine qualWord (qualified l)
+      ++ membersLine badWord (bad l))
+
   -- the sets, at stage 5 every signature, and the stage
   unfoldable pub closingOf : List ℕ
   closingOf =
-      membersLine holdWord (hold l)
-      ++ (membersLine qualWord (qualified l)
-      ++ (membersLine badWord (bad l)
+      memberLines
       ++ (pick (eqb (stageBy l) 5) (signedLines (read l .a * batch (read l .m) (read l .t))) []
-      ++ line endWord (stageBy l ∷ []))))
+      ++ line endWord (stageBy l ∷ []))

@@ -23,7 +23,7 @@ use Rattle.run.specs.Steps.{after}
 use Rattle.answers.specs.Answers.{noSets}
 use Rattle.log.specs.Cutting.{recordsOf, runOf}
 use Rattle.text.specs.Lines.{feed, line, setText, setLine}
-use Rattle.closing.specs.Closing.{holdWord, qualWord, badWord, endWord, sigLine, signatureLine, signatureLines, closing}
+use Rattle.closing.specs.Closing.{holdWord, qualWord, badWord, endWord, sigLine, signatureLine, signatureLines, setLines, closing}
 use Rattle.log.specs.Report.{longWord, longest, refusalLines, reportOf}
 use Rattle.promises.specs.Lists.{accepted, hold, bad, qualified, read, stageBy}
 use Rattle.promises.specs.PlaceLaws.{place-at}
@@ -32,7 +32,7 @@ use Rattle.promises.specs.Stages.{stage-by}
 use Rattle.promises.specs.InvariantLaws.{live-bounds}
 use Rattle.promises.specs.FinishedLaws.{kept-is}
 use Rattle.promises.specs.Demand3.{demand-3}
-use Rattle.promises.specs.Claims.{Place, closingOf, membersLine, signedLines}
+use Rattle.promises.specs.Claims.{Place, memberLines, closingOf, membersLine, signedLines}
 use Rattle.promises.specs.Answers.{answers}
 
 -- an empty set has no members
@@ -91,14 +91,17 @@ module _ (l : List (List ℕ)) where
           ∙ signed-lines e _ (omega arith)
       go false d = refl
 
-  closing-is : closing (after l) ≡ closingOf (accepted l)
-  unfolding closing closingOf noSets
-  closing-is =
+  pub sets-are : setLines (after l) ≡ memberLines (accepted l)
+  unfolding setLines memberLines noSets
+  sets-are =
       let h = answers l in
       ap₂ _++_ (line-is holdWord _ (hold (accepted l)) (λ m. h .sets m .hold-is) (λ m. rw (h .no-sets m)))
       (ap₂ _++_ (line-is qualWord _ (qualified (accepted l)) (λ m. h .sets m .qual-is) (λ m. rw (h .no-sets m)))
-      (ap₂ _++_ (line-is badWord _ (bad (accepted l)) (λ m. h .sets m .bad-is) (λ m. rw (h .no-sets m)))
-      (ap₂ _++_ signatures-are (ap (λ (g : ℕ). line endWord (g ∷ [])) (h .stage)))))
+      (line-is badWord _ (bad (accepted l)) (λ m. h .sets m .bad-is) (λ m. rw (h .no-sets m))))
+
+  closing-is : closing (after l) ≡ closingOf (accepted l)
+  unfolding closing closingOf
+  closing-is = ap₂ _++_ sets-are (ap₂ _++_ signatures-are (ap (λ (g : ℕ). line endWord (g ∷ [])) (answers l .stage)))
 
 -- The page of every log is that of its records: `long` alone over 65,536 bytes, else the refusals and the closing lines of the accepted ones.
 pub page-is : (log : List ℕ) → reportOf log ≡ pick (ltb longest (length log)) (line longWord []) (refusalLines 1 fresh (recordsOf log) ++ closingOf (accepted (recordsOf log)))

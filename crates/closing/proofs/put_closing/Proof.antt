@@ -11,95 +11,49 @@ use lib.ListN.{length}
 use Rattle.lists.specs.Tests.{pick}
 use Rattle.text.specs.Texts.{Wrote}
 use Rattle.text.specs.TextLaws.{wrote-none, wrote-length, wrote-append}
-use Rattle.text.specs.LineLaws.{set-place}
 use Rattle.run.specs.Runs.{stageOf}
 use Rattle.run.specs.RunLaws.{stage-live}
-use Rattle.closing.specs.Closing.{mostSet, mostLines, signatureLines, closing}
-use Rattle.closing.specs.LengthLaws.{signed-max}
+use Rattle.closing.specs.Closing.{mostSets, mostLines, signatureLines, closing}
+use Rattle.closing.specs.LengthLaws.{signed-max, sets-max}
 use Rattle.closing.proofs.put_closing.Statement.{statement}
 use Rattle.closing.proofs.put_closing.Tie as tie
 
 stage-of-requires : tie.Need-stage-of-requires
 stage-of-requires c κs = search needs
 
-sets-of-requires : tie.Need-sets-of-requires
-sets-of-requires c κs = search needs
+put-sets-requires : tie.Need-put-sets-requires
+put-sets-requires c κs =
+    let s = c .before .before .before in
+    (s .pre .0, omega (arith, s .pre .1))
 
-slice-aggregate-put-set : tie.Need-slice-aggregate-put-set
-slice-aggregate-put-set c = refl
-
-put-set-requires : tie.Need-put-set-requires
-put-set-requires c κs =
-    let s = c .before .before .before .before .before in
-    omega (arith, s .pre .0, s .pre .1)
-
-slice-aggregate-put-set-2 : tie.Need-slice-aggregate-put-set-2
-slice-aggregate-put-set-2 c = refl
-
--- after each set the buffer is as long as it was, and the place has gone on by at most the line of a set
-first-room : (c : tie.After-put-set) →
-    let a = c .before .before .before .before .before .before .args in
-    (length (c .put-set .last .0) ≡ length (a .out .now)) × (c .put-set .result ≤ a .at + mostSet)
-first-room c =
-    let s = c .before .before .before .before .before .before in (
-      c .put-set .kept .0,
-      omega (arith, set-place _ _ _ (c .put-set .ensures), s .pre .0),
-    )
-
-put-set-requires-2 : tie.Need-put-set-requires-2
-put-set-requires-2 c κs =
-    let p = c .before .before .before .before in
-    let s = p .before .before .before .before .before .before in
-    omega (arith, first-room p, s .pre .0, s .pre .1)
-
-slice-aggregate-put-set-3 : tie.Need-slice-aggregate-put-set-3
-slice-aggregate-put-set-3 c = refl
-
-second-room : (c : tie.After-put-set2) →
-    let a = c .before .before .before .before .before .before .before .before .before .before .before .args in
-    (length (c .put-set2 .last .0) ≡ length (a .out .now)) × (c .put-set2 .result ≤ a .at + 2 * mostSet)
-second-room c =
-    let p = c .before .before .before .before .before in
-    let s = p .before .before .before .before .before .before in (
-      c .put-set2 .kept .0 ∙ first-room p .0,
-      omega (arith, first-room p .1, set-place _ _ _ (c .put-set2 .ensures), s .pre .0),
-    )
-
-put-set-requires-3 : tie.Need-put-set-requires-3
-put-set-requires-3 c κs =
-    let p = c .before .before .before .before in
-    let s = p .before .before .before .before .before .before .before .before .before .before .before in
-    omega (arith, second-room p, s .pre .0, s .pre .1)
-
-third-room : (c : tie.After-put-set3) →
-    let a = c .before .before .before .before .before .before .before .before .before .before .before .before .before .before .before .before .args in
-    (length (c .put-set3 .last .0) ≡ length (a .out .now)) × (c .put-set3 .result ≤ a .at + 3 * mostSet)
-third-room c =
-    let p = c .before .before .before .before .before in
-    let s = p .before .before .before .before .before .before .before .before .before .before .before in (
-      c .put-set3 .kept .0 ∙ second-room p .0,
-      omega (arith, second-room p .1, set-place _ _ _ (c .put-set3 .ensures), s .pre .0),
+-- after the sets the buffer is as long as it was, and the place has gone on by at most their lines
+sets-room : (c : tie.After-put-sets) →
+    let a = c .before .before .before .before .args in
+    (length (c .put-sets .last .0) ≡ length (a .out .now)) × (c .put-sets .result ≤ a .at + mostSets)
+sets-room c =
+    let s = c .before .before .before .before in (
+      c .put-sets .kept .0,
+      omega (arith, c .put-sets .ensures .place, sets-max (s .args .run) (s .pre .0)),
     )
 
 put-signatures-requires : tie.Need-put-signatures-requires
 put-signatures-requires c κs =
     let p = c .before .before .before .before in
-    let g = p .before .before .before .before .before .before .before .before .before .before .before .before .before .before in
+    let g = p .before .before in
     let s = g .before .before in
     let r = s .args .run in (
       stage-live r 5 (sym (g .stage-of .ensures) ∙ c .before .if1 .taken) (omega arith) (omega arith) .1,
-      omega (arith, third-room p, s .pre .1),
+      omega (arith, sets-room p, s .pre .1),
     )
 
 -- where the two ways meet the signatures are stored, if there are any
 signed : (c : tie.Joined1) →
     let p = c .before .before .before in
-    let r = p .before .before .before .before .before .before .before .before .before .before .before .before .before .before .before .before .args .run in
-    Wrote (p .put-set3 .last .0) (c .if1 .out) (p .put-set3 .result) (c .if1 .next)
+    let r = p .before .before .before .before .args .run in
+    Wrote (p .put-sets .last .0) (c .if1 .out) (p .put-sets .result) (c .if1 .next)
     (pick (eqb (stageOf r) 5) (signatureLines r (r .setup .a * r .b)) [])
 signed c =
-    let p = c .before .before .before in
-    let g = p .before .before .before .before .before .before .before .before .before .before .before .before .before .before in
+    let g = c .before .before .before .before .before in
     ⊎-elim
     (λ w. rw (w .5, w .6, ← g .stage-of .ensures, eq-eqb _ _ (w .0 .taken)) (w .2 .ensures))
     (λ w. rw (w .1, w .2, ← g .stage-of .ensures, ne-eqb _ _ (w .0 .left)) (wrote-none _ _))
@@ -107,17 +61,17 @@ signed c =
 
 -- and there is room for the last line
 last-room : (c : tie.Joined1) →
-    let a = c .before .before .before .before .before .before .before .before .before .before .before .before .before .before .before .before .before .before .before .args in
-    (length (c .if1 .out) ≡ length (a .out .now)) × (c .if1 .next ≤ a .at + 3 * mostSet + mostLines)
+    let a = c .before .before .before .before .before .before .before .args in
+    (length (c .if1 .out) ≡ length (a .out .now)) × (c .if1 .next ≤ a .at + mostSets + mostLines)
 last-room c =
     let p = c .before .before .before in
-    let r = p .before .before .before .before .before .before .before .before .before .before .before .before .before .before .before .before .args .run in (
-      wrote-length (signed c) ∙ third-room p .0,
-      omega (arith, third-room p .1, signed c .place, signed-max r),
+    let r = p .before .before .before .before .args .run in (
+      wrote-length (signed c) ∙ sets-room p .0,
+      omega (arith, sets-room p .1, signed c .place, signed-max r),
     )
 
-cast-t30 : tie.Need-cast-t30
-cast-t30 c = search needs
+cast-t13 : tie.Need-cast-t13
+cast-t13 c = search needs
 
 slice-aggregate-put-line : tie.Need-slice-aggregate-put-line
 slice-aggregate-put-line c = refl
@@ -128,7 +82,7 @@ slice-aggregate-put-line-2 c = refl
 put-line-requires : tie.Need-put-line-requires
 put-line-requires c κs =
     let j = c .before .before .before in
-    omega (arith, last-room j, j .before .before .before .before .before .before .before .before .before .before .before .before .before .before .before .before .before .before .before .pre .1)
+    omega (arith, last-room j, j .before .before .before .before .before .before .before .pre .1)
 
 same-length : tie.Need-same-length
 same-length c =
@@ -140,31 +94,18 @@ unfolding closing
 returns c =
     let l = c .before .before in
     let j = l .before .before .before .before in
-    let p3 = j .before .before .before in
-    let p2 = p3 .before .before .before .before .before in
-    let p1 = p2 .before .before .before .before .before in
-    let f = p1 .before .before .before in
-    let g = f .before in
-    rw (← f .sets-of .ensures, ← g .stage-of .ensures)
-    (wrote-append (p1 .put-set .ensures)
-    (wrote-append (p2 .put-set2 .ensures)
-    (wrote-append (p3 .put-set3 .ensures)
-    (wrote-append (rw (← g .stage-of .ensures) at (signed j)) (l .put-line .ensures)))))
+    let p = j .before .before .before in
+    let g = p .before .before in
+    rw (← g .stage-of .ensures) (wrote-append (p .put-sets .ensures) (wrote-append (rw (← g .stage-of .ensures) at (signed j)) (l .put-line .ensures)))
 
 pub put-closing-spec : {M : Type 1} → statement M
 put-closing-spec =
     tie.close
     (tie.spec
     stage-of-requires
-    sets-of-requires
-    slice-aggregate-put-set
-    put-set-requires
-    slice-aggregate-put-set-2
-    put-set-requires-2
-    slice-aggregate-put-set-3
-    put-set-requires-3
+    put-sets-requires
     put-signatures-requires
-    cast-t30
+    cast-t13
     slice-aggregate-put-line
     slice-aggregate-put-line-2
     put-line-requires

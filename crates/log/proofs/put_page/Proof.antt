@@ -7,7 +7,7 @@ use native.Mathlib.Omega.{arith}
 use borrow.Author.Needs.{needs}
 use borrow.Author.Tests.{eq-eqb, ne-eqb}
 use lib.ListN.{length, take, drop, length-drop}
-use lib.Seq.{take-all, length-take-le}
+use lib.Seq.{length-take-le}
 use Rattle.text.specs.Texts.{Wrote}
 use Rattle.text.specs.TextLaws.{wrote-none, wrote-append}
 use Rattle.run.specs.declared.Reply.{Reply}
@@ -16,7 +16,7 @@ use Rattle.run.specs.Steps.{stepOf, untaken}
 use Rattle.run.specs.RefusalLaws.{refusal-keeps, untaken-refused}
 use Rattle.log.specs.Report.{refusalLine}
 use Rattle.log.specs.Turns.{nextLength, nextRecord}
-use Rattle.log.specs.TurnLaws.{next-pos, next-max}
+use Rattle.log.specs.TurnLaws.{next-pos, next-max, left-is}
 use Rattle.log.proofs.Reading.{Reading, reading-start, reading-place, reading-length, reading-next, reading-lines, reading-run}
 use Rattle.log.proofs.put_page.Statement.{statement}
 use Rattle.log.proofs.put_page.Tie as tie
@@ -44,10 +44,6 @@ part-rest-end c = omega arith
 
 next-length-requires : tie.Need-next-length-requires Inv-loop μ-loop
 next-length-requires c κs = search needs
-
--- what is left, as the code lends it
-left-is : (log : List ℕ) (from : ℕ) → take (length log - from) (drop from log) ≡ drop from log
-left-is log from = take-all (length log - from) (drop from log) (omega (arith, length-drop from log))
 
 -- the length that the code found
 measured : (c : tie.After-next-length Inv-loop μ-loop) →

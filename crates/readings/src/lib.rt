@@ -1,0 +1,1 @@
+// What is promised of readings of logs for their sets: theorems in specs/, no code.
