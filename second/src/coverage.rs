@@ -1,6 +1,6 @@
 //! Which refusal numbers and last stages a set of logs reaches, what becomes of
 //! the CS records in it, and what it shows of 31 to 64 parties, of identities, of
-//! the size of BAD and of runs that wait for more dealers.
+//! the size of BAD, of runs that wait for more dealers and of the sets alone.
 
 use crate::arith::Scalar;
 use crate::count_coverage;
@@ -10,6 +10,7 @@ use crate::records::Tag;
 use crate::refusal::answer_number;
 use crate::report::LONGEST_LOG;
 use crate::run::Stage;
+use crate::sets_coverage;
 use crate::wait_coverage;
 use crate::wide_coverage;
 use std::collections::{BTreeMap, BTreeSet};
@@ -37,8 +38,8 @@ pub struct Coverage {
     pub shift_answers: BTreeMap<u8, usize>,
     /// How many logs ended at stage 5 after an accepted CS, by kind of shift.
     pub done_by_shift: BTreeMap<&'static str, usize>,
-    /// What some log shows of 31 to 64 parties, of identities, of the size of BAD and
-    /// of runs that wait, in words.
+    /// What some log shows of 31 to 64 parties, of identities, of the size of BAD, of
+    /// runs that wait and of the sets alone, in words.
     pub shown: BTreeSet<String>,
 }
 
@@ -47,6 +48,7 @@ impl Coverage {
         self.logs += 1;
         if log.len() > LONGEST_LOG {
             self.long += 1;
+            self.shown.insert(sets_coverage::TOO_LONG.to_string());
             return;
         }
         let reading = read_log(log);
@@ -59,6 +61,7 @@ impl Coverage {
         self.shown.extend(identity_coverage::shown(log, &reading));
         self.shown.extend(count_coverage::shown(&reading));
         self.shown.extend(wait_coverage::shown(&reading));
+        self.shown.extend(sets_coverage::shown(&reading));
     }
 
     fn add_shifts(&mut self, reading: &Reading) {
@@ -84,6 +87,7 @@ impl Coverage {
         missing.extend(self.missing_identities());
         missing.extend(self.missing_counts());
         missing.extend(self.missing_waits());
+        missing.extend(self.missing_sets());
         missing
     }
 
@@ -107,6 +111,11 @@ impl Coverage {
         never_shown(wait_coverage::wanted(), &self.shown)
     }
 
+    /// What is never shown of the sets alone.
+    pub fn missing_sets(&self) -> Vec<String> {
+        never_shown(sets_coverage::wanted(), &self.shown)
+    }
+
     /// The counts, a line each.
     pub fn lines(&self) -> Vec<String> {
         let mut lines = vec![format!("logs {}", self.logs), format!("long {}", self.long)];
@@ -119,6 +128,7 @@ impl Coverage {
             ("identities", identity_coverage::wanted()),
             ("the size of BAD", count_coverage::wanted()),
             ("runs that wait", wait_coverage::wanted()),
+            ("the sets alone", sets_coverage::wanted()),
         ];
         lines.extend(kinds.map(|(of, wanted)| counted_shown(of, &wanted, &self.shown)));
         lines

@@ -4,19 +4,21 @@
 //! algorithm with the proved core. Where the two could meet, this one is built
 //! the plain way: accepted records stand in order of arrival, sets are sorted
 //! sets of party numbers, counted member by member, the weights of interpolation
-//! come from solving the Vandermonde system by Gaussian elimination, and a shift
-//! is one more dealing, and how many dealings a run signs with is counted when asked.
+//! come from solving the Vandermonde system by Gaussian elimination, a shift is one
+//! more dealing, how many dealings a run signs with is counted when asked, and the
+//! bytes that fix the sets are found in the list of a whole reading.
 //!
 //! - `arith`: scalars and group elements
 //! - `weights`: interpolation
 //! - `params`, `refusal`, `records`: the parameters, the refusals, the formats
 //! - `run`: the stages
 //! - `log`, `report`: cutting a log, printing its report
+//! - `sets`: the sets alone, and the bytes that fix them
 //! - `writers`, `requests`: making records, and the stream that asks for them
 //! - `masks`: counting members, and the stream that asks for it
 //! - `generator`, `rng`: logs, requests and masks for the comparison
 //! - `coverage`, `wide_coverage`, `identity_coverage`, `count_coverage`,
-//!   `wait_coverage`: what the logs reach
+//!   `wait_coverage`, `sets_coverage`: what the logs reach
 //! - `mask_coverage`: what the masks show
 
 #![forbid(unsafe_code)]
@@ -36,6 +38,8 @@ pub mod report;
 pub mod requests;
 pub mod rng;
 pub mod run;
+pub mod sets;
+pub mod sets_coverage;
 pub mod wait_coverage;
 pub mod weights;
 pub mod wide_coverage;

@@ -20,10 +20,15 @@ pub struct Given {
     /// Where it stands in the log.
     pub place: Range<usize>,
     pub tag: Option<Tag>,
+    /// The length by which it is passed over, if there is one; a cut record has fewer
+    /// bytes.
+    pub length: Option<usize>,
     /// The stage at which it was given.
     pub stage: Stage,
     /// The run's answer.
     pub answer: Result<(), Refusal>,
+    /// The stage after it.
+    pub stage_after: Stage,
 }
 
 impl Reading {
@@ -44,21 +49,23 @@ pub fn read_log(log: &[u8]) -> Reading {
     let mut reading = Reading { run: Run::fresh(), answers: Vec::new() };
     let mut rest = log;
     while !rest.is_empty() {
-        let (record, after) = cut(&reading.run, rest);
+        let length = next_length(&reading.run, rest);
+        let (record, after) = cut(length, rest);
         let stage = reading.run.stage;
         let answer = reading.run.give(record);
+        let (tag, stage_after) = (Tag::of(record), reading.run.stage);
         let end = log.len() - after.len();
         let place = end - record.len()..end;
-        reading.answers.push(Given { place, tag: Tag::of(record), stage, answer });
+        reading.answers.push(Given { place, tag, length, stage, answer, stage_after });
         rest = after;
     }
     reading
 }
 
-/// The next record and the bytes after it. Where no whole record can be cut,
-/// the rest is one record and nothing comes after.
-fn cut<'a>(run: &Run, rest: &'a [u8]) -> (&'a [u8], &'a [u8]) {
-    match next_length(run, rest) {
+/// The next record, of this length, and the bytes after it. Where no whole record can
+/// be cut, the rest is one record and nothing comes after.
+fn cut(length: Option<usize>, rest: &[u8]) -> (&[u8], &[u8]) {
+    match length {
         Some(length) if length <= rest.len() => rest.split_at(length),
         _ => (rest, &[]),
     }

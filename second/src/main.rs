@@ -1,5 +1,5 @@
-//! The program `second`: prints reports, answers requests and counts members, and
-//! makes logs, requests and masks. Written from documents 01 and 02 alone.
+//! The program `second`: prints reports and sets, answers requests and counts members,
+//! and makes logs, requests and masks. Written from documents 01 and 02 alone.
 
 use second::coverage::Coverage;
 use second::generator::calls::all_streams;
@@ -7,6 +7,7 @@ use second::generator::logs::all_logs;
 use second::generator::mask_streams::mask_streams;
 use second::mask_coverage::MaskCoverage;
 use second::report::report;
+use second::sets::sets;
 use second::{masks, requests};
 use std::fs;
 use std::io::{self, Read, Write};
@@ -15,6 +16,8 @@ use std::process::ExitCode;
 
 const USAGE: &str = "usage:
   second page < LOG                     print the report of a log
+  second sets < LOG                     print the sets of a log alone, and how many
+                                        bytes it takes to fix them
   second generate DIR [--seed N]        write logs
   second requests DIR [--seed N]        write streams of writer requests
   second write < REQUESTS               answer a stream of writer requests
@@ -24,7 +27,8 @@ const USAGE: &str = "usage:
                                         the answers to CS, and what is missing of
                                         31 to 64 parties, of identities, of the size
                                         of BAD, of runs that wait for more dealers,
-                                        and in the streams of masks";
+                                        of the sets alone, and in the streams of
+                                        masks";
 
 /// The seed when none is given.
 const DEFAULT_SEED: u64 = 1;
@@ -44,6 +48,7 @@ fn main() -> ExitCode {
 fn obey(words: &[&str]) -> io::Result<ExitCode> {
     match words {
         ["page"] => answer(report),
+        ["sets"] => answer(sets),
         ["write"] => answer(requests::answer_stream),
         ["count"] => answer(masks::answer_stream),
         ["generate", directory] => generate(directory, DEFAULT_SEED),

@@ -82,6 +82,11 @@ impl Tag {
         }
     }
 
+    /// The letters as text.
+    pub fn name(self) -> String {
+        String::from_utf8_lossy(self.letters()).into_owned()
+    }
+
     /// The tag that the bytes begin with.
     pub fn of(bytes: &[u8]) -> Option<Tag> {
         Tag::ALL.into_iter().find(|tag| bytes.starts_with(tag.letters()))
@@ -102,7 +107,7 @@ impl Tag {
 }
 
 /// The length of GO: its tag alone.
-const GO_LENGTH: usize = 2;
+pub const GO_LENGTH: usize = 2;
 
 /// The length of SU and of SX with this t.
 pub fn setup_length(t: u8) -> usize {

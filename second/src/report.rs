@@ -18,7 +18,11 @@ pub fn report(log: &[u8]) -> String {
         return LONG.to_string();
     }
     let reading = read_log(log);
-    let lines = report_lines(&reading);
+    as_text(&report_lines(&reading))
+}
+
+/// The lines, each with its line feed.
+pub fn as_text(lines: &[String]) -> String {
     lines.iter().map(|line| format!("{line}\n")).collect()
 }
 
@@ -28,15 +32,22 @@ fn report_lines(reading: &Reading) -> Vec<String> {
         .refused()
         .map(|(position, refusal)| format!("refuse {position} {}", refusal.number()))
         .collect();
-    let sets = run.sets.as_ref();
-    lines.push(set_line("hold", sets.map(|sets| &sets.hold)));
-    lines.push(set_line("qual", sets.map(|sets| &sets.qual)));
-    lines.push(set_line("bad", sets.map(|sets| &sets.bad)));
+    lines.extend(set_lines(run));
     if run.stage == Stage::Done {
         lines.extend(signature_lines(run));
     }
     lines.push(format!("end {}", run.stage.number()));
     lines
+}
+
+/// HOLD, QUAL and BAD, a line each.
+pub fn set_lines(run: &Run) -> Vec<String> {
+    let sets = run.sets.as_ref();
+    vec![
+        set_line("hold", sets.map(|sets| &sets.hold)),
+        set_line("qual", sets.map(|sets| &sets.qual)),
+        set_line("bad", sets.map(|sets| &sets.bad)),
+    ]
 }
 
 /// A set with its members rising; `-` for an empty or unfixed one.

@@ -91,22 +91,18 @@ fn wanted_of_ends() -> Vec<String> {
     wanted
 }
 
-fn letters(tag: Tag) -> String {
-    String::from_utf8_lossy(tag.letters()).into_owned()
-}
-
 fn at_stage_0(tag: Tag, number: u8) -> String {
-    format!("{} answered {number} at stage 0", letters(tag))
+    format!("{} answered {number} at stage 0", tag.name())
 }
 
 /// A record that the stage refuses in a run begun so.
 fn later(tag: Tag, stage: Stage, begun: &str) -> String {
-    format!("{} answered 11 at stage {} of a run {begun}", letters(tag), stage.number())
+    format!("{} answered 11 at stage {} of a run {begun}", tag.name(), stage.number())
 }
 
 /// A record at stage 1 of a run begun by SX.
 fn with_dealings(tag: Tag, number: u8, count: &str) -> String {
-    format!("{} answered {number} after {count} of a run that waits", letters(tag))
+    format!("{} answered {number} after {count} of a run that waits", tag.name())
 }
 
 fn under_six(number: u8) -> String {
@@ -114,7 +110,7 @@ fn under_six(number: u8) -> String {
 }
 
 fn shorter(tag: Tag) -> String {
-    format!("{} answered 2 with n-2t in place of b", letters(tag))
+    format!("{} answered 2 with n-2t in place of b", tag.name())
 }
 
 fn flood(number: u8, begun: &str) -> String {
@@ -122,7 +118,7 @@ fn flood(number: u8, begun: &str) -> String {
 }
 
 fn done(count: &str, tag: Tag, width: &str) -> String {
-    format!("done with {count} after {}, {width}", letters(tag))
+    format!("done with {count} after {}, {width}", tag.name())
 }
 
 fn of_width(what: &str, width: &str) -> String {

@@ -73,8 +73,7 @@ fn answered(tag: Option<Tag>, number: u8, n: Party) -> String {
 }
 
 fn named(tag: Option<Tag>) -> String {
-    let letters = tag.map(|tag| String::from_utf8_lossy(tag.letters()).into_owned());
-    letters.unwrap_or_else(|| "no tag".to_string())
+    tag.map_or_else(|| "no tag".to_string(), Tag::name)
 }
 
 fn done(n: Party, tag: Tag) -> String {

@@ -109,19 +109,22 @@ fn coverage_without(words: &[&str]) -> Coverage {
 }
 
 /// What the logs reach that are neither of more than 32 parties nor about identities,
-/// nor of runs that wait, found once.
+/// nor of runs that wait, nor about the bytes that fix the sets, found once.
 fn first_coverage() -> Coverage {
     static COVERAGE: OnceLock<Coverage> = OnceLock::new();
-    COVERAGE.get_or_init(|| coverage_without(&["wide", "identity", "count", "wait"])).clone()
+    COVERAGE
+        .get_or_init(|| coverage_without(&["wide", "identity", "count", "wait", "sets"]))
+        .clone()
 }
 
-/// What is missing, more than 32 parties, identities, the size of BAD and runs that
-/// wait aside, and with these refusal 17, which only they give.
+/// What is missing, more than 32 parties, identities, the size of BAD, runs that wait
+/// and the sets alone aside, and refusal 17, which only runs that wait give.
 fn missing_else(coverage: &Coverage) -> Vec<String> {
     let mut aside = coverage.missing_wide();
     aside.extend(coverage.missing_identities());
     aside.extend(coverage.missing_counts());
     aside.extend(coverage.missing_waits());
+    aside.extend(coverage.missing_sets());
     aside.push("refusal 17".to_string());
     coverage.missing().into_iter().filter(|what| !aside.contains(what)).collect()
 }
@@ -129,7 +132,7 @@ fn missing_else(coverage: &Coverage) -> Vec<String> {
 /// Without CS the coverage is not whole.
 #[test]
 fn shifts_are_asked_for() {
-    let mut coverage = coverage_without(&["shift", "wide", "identity", "count", "wait"]);
+    let mut coverage = coverage_without(&["shift", "wide", "identity", "count", "wait", "sets"]);
     let answers = [0, 11, 2, 3, 6].map(|number| format!("CS answered {number}"));
     let ends = ["done with the shift 0", "done with another shift"].map(str::to_string);
     assert_eq!(missing_else(&coverage), [&answers[..], &ends].concat());
@@ -183,6 +186,16 @@ fn runs_that_wait_are_asked_for() {
     assert!(coverage.missing().contains(&"refusal 17".to_string()));
 }
 
+/// Without the logs about the bytes that fix the sets, and of runs that wait, not all is
+/// shown that is asked of the sets alone.
+#[test]
+fn the_sets_alone_are_asked_for() {
+    let coverage = first_coverage();
+    let (missing, all) = (coverage.missing_sets(), coverage.missing());
+    assert!(missing.contains(&"GO alone ends the reading at stage 0 and counts 2".to_string()));
+    assert!(missing.iter().all(|what| all.contains(what)));
+}
+
 /// Does the log begin with a setup whose S is 1?
 fn has_identity_key(log: &NamedLog) -> bool {
     log.bytes.starts_with(b"SU") && log.bytes.get(6..10) == Some(&[0, 0, 0, 1])
@@ -191,7 +204,7 @@ fn has_identity_key(log: &NamedLog) -> bool {
 /// Is the log from before request 2.3, with such a setup? Later ones have a good setup
 /// after it.
 fn ends_with_its_key(log: &NamedLog) -> bool {
-    let later = ["identity", "wait"].iter().any(|word| log.kind.contains(word));
+    let later = ["identity", "wait", "sets"].iter().any(|word| log.kind.contains(word));
     !later && has_identity_key(log)
 }
 
@@ -208,7 +221,7 @@ fn some_earlier_logs_have_the_identity_as_their_key() {
 }
 
 /// Kinds of logs that end with signatures.
-const COMPLETED: [&str; 37] = [
+const COMPLETED: [&str; 40] = [
     "complete-32-1-15",
     "complete-32-10-1",
     "full-packing",
@@ -246,6 +259,9 @@ const COMPLETED: [&str; 37] = [
     "wait-setup-refused",
     "wait-flood-then-done",
     "wait-size-65536",
+    "sets-3-then-done",
+    "sets-refused-go-early",
+    "sets-refused-setups-late",
 ];
 
 #[test]

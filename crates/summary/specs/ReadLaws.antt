@@ -5,6 +5,7 @@ use mathlib.Core.List.{List, [], _∷_, _++_}
 use Prim.Native.Nat.{ℕ, _<_}
 use native.Mathlib.Omega.{arith}
 use lib.ListN.{length}
+use Rattle.lists.specs.Tests.{pick}
 use Rattle.lists.specs.TestLaws.{no-both}
 use Rattle.run.specs.declared.Run.{Run}
 use Rattle.run.specs.Runs.{fresh}
@@ -35,7 +36,7 @@ read-none r = rw (records-none r)
 upTo-settled : (r : Run) (l : List (List ℕ)) → settled r ≡ true → upTo r l ≡ []
 unfolding upTo
 upTo-settled r [] e = refl
-upTo-settled r (s ∷ l) e = rw e
+upTo-settled r (s ∷ l) e = ap (λ (b : Bool). pick b [] (s ∷ upTo (stepOf r s .run) l)) e
 
 pub read-settled : (r : Run) (s : List ℕ) → settled r ≡ true → readFrom r s ≡ []
 unfolding readFrom
@@ -43,7 +44,7 @@ read-settled r s e = upTo-settled r (recordsFrom r s) e
 
 upTo-next : (r : Run) (s : List ℕ) (l : List (List ℕ)) → settled r ≡ false → upTo r (s ∷ l) ≡ s ∷ upTo (stepOf r s .run) l
 unfolding upTo
-upTo-next r s l e = rw e
+upTo-next r s l e = ap (λ (b : Bool). pick b [] (s ∷ upTo (stepOf r s .run) l)) e
 
 pub read-next : (r : Run) (s : List ℕ) → 0 < length s → settled r ≡ false
     → readFrom r s ≡ nextRecord r s ∷ readFrom (stepOf r (nextRecord r s) .run) (nextRest r s)

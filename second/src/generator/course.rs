@@ -52,6 +52,11 @@ pub fn completed(mut draft: Draft, rng: &mut Rng) -> Vec<u8> {
     draft.bytes
 }
 
+/// The bytes that a draft adds when it goes on to its end.
+pub fn rest_of(draft: &Draft, rng: &mut Rng) -> Vec<u8> {
+    completed(draft.clone(), rng)[draft.bytes.len()..].to_vec()
+}
+
 /// A record of each tag that the stage does not take.
 pub fn add_every_alien(draft: &mut Draft, rng: &mut Rng) {
     for tag in draft.alien_tags() {

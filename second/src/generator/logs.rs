@@ -2,8 +2,9 @@
 //! with and without faults, logs at the limits of the format (in `edges`), logs
 //! with CS (in `shifts` and `shift_edges`), logs of more than 32 parties (in `wide`,
 //! `wide_masks` and `wide_edges`), logs with identities (in `identity`,
-//! `identity_values` and `rekeyed`), logs about the size of BAD (in `count`), and logs
-//! of runs that wait for more dealers (in `waits`, `wait_edges` and `wait_lengths`).
+//! `identity_values` and `rekeyed`), logs about the size of BAD (in `count`), logs of
+//! runs that wait for more dealers (in `waits`, `wait_edges` and `wait_lengths`), and logs
+//! about the bytes that fix the sets (in `sets_ends`, `sets_brought` and `sets_sizes`).
 //! New kinds stand last, so that the others keep their places and bytes.
 
 use super::committee::random_params;
@@ -14,6 +15,7 @@ use super::draft::Draft;
 use super::edges;
 use super::log_set::{LogSet, NamedLog};
 use super::{identity, identity_values, rekeyed, shift_edges, shifts};
+use super::{sets_brought, sets_ends, sets_sizes};
 use super::{wait_edges, wait_lengths, waits};
 use super::{wide, wide_edges, wide_masks};
 use crate::params::{Params, MOST_NARROW};
@@ -24,7 +26,7 @@ use crate::run::Stage;
 type Group = fn(&mut LogSet, &mut Rng);
 
 /// Every group of logs, in order.
-const GROUPS: [Group; 51] = [
+const GROUPS: [Group; 59] = [
     document_logs,
     full_packing_logs,
     complete_logs,
@@ -76,6 +78,14 @@ const GROUPS: [Group; 51] = [
     wait_lengths::length_logs,
     wait_lengths::flood_logs,
     wait_lengths::changed_logs,
+    sets_ends::last_record_logs,
+    sets_ends::cut_logs,
+    sets_ends::before_setup_logs,
+    sets_ends::before_go_logs,
+    sets_brought::brought_logs,
+    sets_brought::refused_logs,
+    sets_sizes::size_logs,
+    sets_sizes::lot_logs,
 ];
 
 /// Every log of the set that a seed gives.

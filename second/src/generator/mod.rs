@@ -10,7 +10,8 @@
 //! - `log_set`: logs gathered by kind
 //! - `edges`, `shifts`, `shift_edges`, `wide`, `wide_masks`, `wide_edges`,
 //!   `identity`, `identity_values`, `rekeyed`, `count`, `waits`, `wait_edges`,
-//!   `wait_lengths`, `logs`: every kind of log
+//!   `wait_lengths`, `sets_ends`, `sets_brought`, `sets_sizes`, `logs`: every kind of
+//!   log
 //! - `request_set`: writer requests gathered, each with its intended number
 //! - `document_calls`, `value_calls`, `run_calls`, `shift_calls`, `wide_calls`,
 //!   `identity_calls`, `wait_calls`: every kind of writer request
@@ -37,6 +38,9 @@ pub mod mask_streams;
 pub mod rekeyed;
 pub mod request_set;
 pub mod run_calls;
+pub mod sets_brought;
+pub mod sets_ends;
+pub mod sets_sizes;
 pub mod shift_calls;
 pub mod shift_edges;
 pub mod shifts;

@@ -3,7 +3,7 @@
 
 use super::bytes::put;
 use super::committee::random_scalar;
-use super::course::completed;
+use super::course::{completed, rest_of};
 use super::draft::Draft;
 use super::edges::{base_draft, changed, draft_at, jumbled, small_draft, spliced};
 use super::log_set::LogSet;
@@ -66,7 +66,7 @@ pub fn length_logs(gathered: &mut LogSet, rng: &mut Rng) {
 /// The draft with a CS too short, and with a CH too long, before the rest of it.
 pub fn other_lengths(draft: &Draft, rng: &mut Rng) -> [Vec<u8>; 2] {
     let (ch, cs) = (draft.committee.ch(rng), draft.committee.cs(Scalar::ONE, rng));
-    let rest = completed(draft.clone(), rng)[draft.bytes.len()..].to_vec();
+    let rest = rest_of(draft, rng);
     [[b"CS", &ch[2..]], [b"CH", &cs[2..]]]
         .map(|record| [&draft.bytes, &record.concat()[..], &rest].concat())
 }

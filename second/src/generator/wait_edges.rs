@@ -57,7 +57,7 @@ pub fn go_logs(gathered: &mut LogSet, rng: &mut Rng) {
 }
 
 /// GO, and VE, before every one of the first n-t dealings, then the rest.
-fn early(draft: Draft, rng: &mut Rng) -> Vec<u8> {
+pub fn early(draft: Draft, rng: &mut Rng) -> Vec<u8> {
     let mut draft = draft_at(Stage::Dealing, draft, rng);
     for _ in 0..draft.params().majority() {
         draft.refuse(GO, Refusal::Early);
@@ -233,7 +233,7 @@ fn with_faults(mut setup: Vec<u8>, faults: &[Refusal]) -> Vec<u8> {
 }
 
 /// SU and SX with a t of their own at a later stage, then the rest of the log.
-fn late_setups(mut draft: Draft, rng: &mut Rng) -> Vec<u8> {
+pub fn late_setups(mut draft: Draft, rng: &mut Rng) -> Vec<u8> {
     for t in [0, 1, 2, 3, 21, HIGHEST_T] {
         for tag in [Tag::Su, Tag::Sx] {
             let contents = rng.bytes(setup_length(t) - 4);

@@ -3,7 +3,7 @@
 //! logs, and good logs cut and changed at random.
 
 use super::committee::{as_cs, random_scalar};
-use super::course::completed;
+use super::course::{completed, rest_of};
 use super::document;
 use super::draft::Draft;
 use super::edges::{changed, cut_tails, draft_at, spliced};
@@ -29,7 +29,7 @@ pub fn before_go_logs(gathered: &mut LogSet, rng: &mut Rng) {
             let draft = draft_of_all((n, t, a), rng);
             let draft = with_dealings(draft, count, rng);
             gathered.add("wait-stopped", draft.bytes.clone());
-            let rest = completed(draft.clone(), rng)[draft.bytes.len()..].to_vec();
+            let rest = rest_of(&draft, rng);
             for tag in BY_B {
                 let record = spoil::alien(&draft, tag, rng);
                 gathered.add("wait-before-go", [&draft.bytes[..], &record, &rest].concat());
@@ -64,7 +64,7 @@ fn other_length(gathered: &mut LogSet, draft: Draft, tag: Tag, extra: usize, rng
     other.heard = draft.params().majority() + extra;
     let mut record = draft.good_record(tag, rng);
     record.resize(other.length(tag), 0);
-    let rest = completed(draft.clone(), rng)[draft.bytes.len()..].to_vec();
+    let rest = rest_of(&draft, rng);
     gathered.add("wait-other-length-last", [&draft.bytes[..], &record].concat());
     gathered.add("wait-other-length", [&draft.bytes[..], &record, &rest].concat());
 }
@@ -88,7 +88,7 @@ pub fn flood_logs(gathered: &mut LogSet, rng: &mut Rng) {
         gathered.add(&format!("wait-size-{size}-done"), flooded(done.clone(), size));
     }
     let draft = waiting_at(Stage::Dealing, (4, 1, 1), rng);
-    let rest = completed(draft.clone(), rng)[draft.bytes.len()..].to_vec();
+    let rest = rest_of(&draft, rng);
     let flood = flooded(draft.bytes, LONGEST_LOG - rest.len());
     gathered.add("wait-flood-then-done", [flood, rest].concat());
 }

@@ -2,7 +2,7 @@
 //! VE of the other width, cut logs, the longest ones, good ones changed.
 
 use super::committee::Triple;
-use super::course::{add_every_alien, completed};
+use super::course::{add_every_alien, completed, rest_of};
 use super::draft::Draft;
 use super::edges::{changed, complaint_flood, cut_tails, draft_at, jumbled, padded, spliced};
 use super::log_set::LogSet;
@@ -27,7 +27,7 @@ pub fn width_logs(gathered: &mut LogSet, rng: &mut Rng) {
     for stage in Stage::ALL {
         for params in [(32, 1, 1), (33, 1, 1)] {
             let draft = light_draft_at(stage, params, rng);
-            let rest = completed(draft.clone(), rng)[draft.bytes.len()..].to_vec();
+            let rest = rest_of(&draft, rng);
             for word in WORDS {
                 let row = other_width(&draft, word);
                 let log = [&draft.bytes[..], &row, &rest].concat();

@@ -2,7 +2,7 @@
 use mathlib.Core.Path.{_≡_, sym, ap, ap₂, subst, _∙_}
 use mathlib.Core.Bool.{false}
 use mathlib.Core.List.{List}
-use mathlib.Core.Logic.{⊎-elim}
+use mathlib.Core.Logic.{⊎-elim, _≢_}
 use Prim.Native.Nat.{ℕ, _+_, _-_, _≤_, _<_}
 use native.Mathlib.Omega.{arith}
 use borrow.Author.Needs.{needs}
@@ -149,7 +149,9 @@ given c =
     let s = nextRecord r (drop (l .loop .from) (l .before .before .before .args .log .now)) in
     ⊎-elim
     (λ w. w .3 ∙ ap (λ (y : Reply). y .run) (w .1 .ensures ∙ ap (stepOf r) (record-is n)))
-    (λ w. w .1 ∙ sym (ap (λ (y : Reply). y .run) (untaken-refused r s (λ e. w .0 .left (asked (c .before) ∙ e)))))
+    (λ w.
+    let refuses : c .before .untaken .result ≢ 0 = w .0 .left in
+    w .1 ∙ sym (ap (λ (y : Reply). y .run) (untaken-refused r s (λ e. refuses (asked (c .before) ∙ e)))))
     (c .if2 .came)
 
 add-from : tie.Need-add-from Inv-loop μ-loop
