@@ -14,19 +14,19 @@ use Rattle.records.specs.Tags.{tagOf, setupLength, dealingLength, maskWidth, co
 use Rattle.refusals.specs.Refusals.{setupRefusal, headRefusal, dealingRefusal, maskFits, complaintRefusal, scalarsRefusal, challengesRefusal, shiftedRefusal, responseRefusal}
 use Rattle.protocol.specs.Transcript.{dealingAt, validShare, coefficient, keyAt, combinedAt, nonce, shiftedElement, shiftedNonce, challengeAt, responseAt, passes, exponent, productOver, dealerFactor}
 use Rattle.arrays.specs.Arrays.{base, cell}
-use Rattle.dealing.specs.Definitions.{noSetup, noDealings, setupOf, begunBatch, dealingNumber, wrongShares, withDealing, mayBlame, keyIn, dealingStage, goNumber}
+use Rattle.dealing.specs.Definitions.{noSetup, noDealings, setupOf, begunBatch, dealingNumber, wrongShares, withDealing, mayBlame, keyIn}
 use Rattle.complaint.specs.Definitions.{noComplaints, complaintNumber, withComplaint, complaintStage, maskBy, blamedBy, unblamed}
 use Rattle.verification.specs.Definitions.{transcript}
 use Rattle.response.specs.Definitions.{noResponses, phiOf, shiftedPhiOf, responseNumber, withResponse, signaturesOf}
 use Rattle.challenge.specs.Definitions.{noChallenges, challengesFrom, withChallenges, withShifted}
-use Rattle.run.specs.Runs.{noScalars, begun, fresh, batchFits, wellFormed, stageOf, transcriptOf, kept}
+use Rattle.run.specs.Runs.{noScalars, begun, fresh, wellFormed, stageOf, transcriptOf, kept}
 use Rattle.answers.specs.Answers.{setsOf, unblamedOf, badOf, noSets, keptSets}
 use Rattle.log.specs.Cutting.{ownLength, byBatch, lengthAt, lengthOf, whole, cutFrom, recordsOf, runOf}
 use Rattle.text.specs.Lines.{decimalTo, decimal, field, fields, line, setText, setLine}
 use Rattle.closing.specs.Closing.{signatureLine, signatureLines, setLines, closing}
 use Rattle.log.specs.Report.{refusalLine, refusalLines, reportOf}
 use Rattle.run.specs.Steps.{afterSetup, afterDealing, afterGo, afterComplaint, afterChallenges, afterShifted, withRow, finished, afterResponse, handled, stepOf, afterFrom, after}
-use Rattle.stages.specs.Definitions.{takenAt, atStage, handlerAt}
+use Rattle.stages.specs.Definitions.{takenAt, atStage, handlerAt, dealingStage, goNumber, batchFits}
 use Rattle.dealer.specs.Dealt.{setupRefused}
 
 -- `unfolding opened` opens what this line names

@@ -1,10 +1,9 @@
--- The accepted setup and the accepted dealings (document 01, "The run"; waiting is of document 02, request 2.5): what is kept of them, what one
--- more dealing does, and when a GO ends the waiting for more.
+-- The accepted setup and the accepted dealings (document 01, "The run"; waiting is of document 02, request 2.5): what is kept of them, and what one
+-- more dealing does.
 use Prim.Native.Nat.{ℕ, _+_, _-_}
 use mathlib.Core.Bool.{Bool, not, _&&_}
 use mathlib.Core.List.{List}
-use lib.ListN.{length, getD, set}
-use lib.Dec.{eqb, leb}
+use lib.ListN.{getD, set}
 use Rattle.lists.specs.Tests.{pick, require, orNext}
 use Rattle.lists.specs.Stores.{stored, filled}
 use Rattle.sets.specs.Masks.{has, insert, maskOf}
@@ -12,7 +11,7 @@ use Rattle.field.specs.declared.Element.{Element}
 use Rattle.field.specs.Definitions.{scalar, element, identity}
 use Rattle.parameters.specs.Definitions.{mostParties, places, quorum, batch}
 use Rattle.records.specs.Bytes.{byteAt, word, sender}
-use Rattle.records.specs.Tags.{sharesFrom, goLength}
+use Rattle.records.specs.Tags.{sharesFrom}
 use Rattle.refusals.specs.Refusals.{dealingRefusal}
 use Rattle.protocol.specs.Transcript.{validShare}
 use Rattle.arrays.specs.Arrays.{base}
@@ -71,16 +70,3 @@ withDealing setup d s =
 -- holder j may blame dealer i: i has a dealing, whose share for j is not valid
 unfoldable pub mayBlame : Dealings → ℕ → ℕ → Bool
 mayBlame d j i = has (d .dealers) i && has (getD (d .wrong) (i - 1) 0) j
-
--- ---- waiting, and GO
-
--- the stage that m dealings bring: 1 in a run that waits, whose b is not fixed yet; else 2 after n-t of them
-unfoldable pub dealingStage : ℕ → ℕ → ℕ → ℕ → ℕ
-dealingStage n t m b = pick (eqb b 0) 1 (pick (eqb m (n - t)) 2 1)
-
--- the refusal of a GO at stage 1 with m dealings: 11 in a run that does not wait, whose b is fixed; 2; then 17 before n-t dealings
-unfoldable pub goNumber : ℕ → ℕ → ℕ → ℕ → List ℕ → ℕ
-goNumber n t m b s =
-    require (eqb b 0) 11
-    (require (eqb (length s) goLength) 2
-    (require (leb (n - t) m) 17 0))

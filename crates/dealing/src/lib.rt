@@ -8,7 +8,7 @@ ghost use Rattle.parameters.specs.Definitions.{mostParties, inBounds};
 ghost use Rattle.records.specs.Bytes.{word, sender};
 ghost use Rattle.protocol.specs.Transcript.{keyAt};
 ghost use Rattle.arrays.specs.Arrays.{elements};
-ghost use Rattle.dealing.specs.Definitions.{setupOf, keyIn, dealingNumber, wrongShares, withDealing, mayBlame, goNumber, dealingStage};
+ghost use Rattle.dealing.specs.Definitions.{setupOf, keyIn, dealingNumber, wrongShares, withDealing, mayBlame};
 use field::Element;
 use field::Scalar;
 use parameters::MOST_PARTIES;
@@ -31,33 +31,6 @@ pub struct Dealings {
     pub dealers: u64,
     pub commitments: [Element; PLACES],
     pub wrong: [u64; PARTIES],
-}
-
-// The refusal of a GO at stage 1 with m dealings, or 0: 11 in a run that does not wait, whose b is fixed; the length; 17 before n-t dealings.
-pub fn go_number(n: u8, t: u8, m: u8, b: u8, bytes: &[u8]) -> u8
-    ensures { λ r. ⌜ r ≡ goNumber n t m b (now (bytes .entry)) ⌝ }
-{
-    if b != 0 {
-        return 11;
-    }
-    if bytes.len() != records::GO_LENGTH {
-        return 2;
-    }
-    if n as u16 > m as u16 + t as u16 {
-        return 17;
-    }
-    0
-}
-
-// The stage that m dealings bring: 1 in a run that waits, whose b is not fixed yet; else 2 after n-t of them.
-pub fn dealing_stage(n: u8, t: u8, m: u8, b: u8) -> u8
-    requires { ⌜ t ≤ n ⌝ }
-    ensures { λ r. ⌜ r ≡ dealingStage n t m b ⌝ }
-{
-    if b == 0 {
-        return 1;
-    }
-    if m == n - t { 2 } else { 1 }
 }
 
 // S and S_1 on from a setup.

@@ -21,10 +21,10 @@ use Rattle.refusals.specs.RefusalLaws.{complaint-passed}
 use Rattle.protocol.specs.Transcript.{validShare}
 use Rattle.run.specs.declared.Run.{Run}
 use Rattle.run.specs.Runs.{stageOf, transcriptOf}
-use Rattle.dealing.specs.Definitions.{dealingNumber, wrongShares, mayBlame, goNumber}
+use Rattle.dealing.specs.Definitions.{dealingNumber, wrongShares, mayBlame}
 use Rattle.complaint.specs.Definitions.{complaintNumber}
 use Rattle.run.specs.Steps.{afterSetup, afterDealing, afterGo, afterComplaint, afterChallenges, afterShifted, afterResponse, handled, stepOf, after}
-use Rattle.stages.specs.Definitions.{takenAt, atStage, handlerAt}
+use Rattle.stages.specs.Definitions.{takenAt, atStage, handlerAt, goNumber}
 use Rattle.run.specs.StepLaws.{step-taken, stage-case, answered-number}
 use Rattle.run.specs.NumberLaws.{common, setup-numbers, scalars-numbers, complaint-refusals, dealing-numbers, go-numbers, response-numbers}
 use Rattle.run.specs.declared.Reply.{Reply}

@@ -22,6 +22,7 @@ use Rattle.records.specs.Tags.{Tag, SU, SX, DE, GO, VE, CH, CS, RE, maskAt}
 use Rattle.refusals.specs.Refusals.{setupRefusal, dealingRefusal}
 use Rattle.parameters.specs.ParameterLaws.{Bounds, key-max}
 use Rattle.refusals.specs.RefusalLaws.{setup-passed, dealing-passed}
+use Rattle.stages.specs.Definitions.{batchFits}
 use Rattle.dealing.specs.declared.Setup.{Setup}
 use Rattle.dealing.specs.declared.Dealings.{Dealings}
 use Rattle.complaint.specs.declared.Complaints.{Complaints}
@@ -31,7 +32,7 @@ use Rattle.run.specs.declared.Run.{Run}
 use Rattle.arrays.specs.Arrays.{base}
 use Rattle.dealing.specs.Definitions.{noSetup, setupOf, wrongShares}
 use Rattle.challenge.specs.Definitions.{noChallenges}
-use Rattle.run.specs.Runs.{batchFits, wellFormed, stageOf, transcriptOf}
+use Rattle.run.specs.Runs.{wellFormed, stageOf, transcriptOf}
 use Rattle.response.specs.Definitions.{shiftedPhiOf}
 use Rattle.complaint.specs.Definitions.{blamedBy, maskBy}
 use Rattle.run.specs.RunLaws.{Gone, begun-fits, gone-fits, formed-test}

@@ -23,7 +23,7 @@ use Rattle.parameters.specs.ParameterLaws.{Bounds, cells-max, batch-pos, quorum
 use Rattle.dealing.specs.declared.Setup.{Setup}
 use Rattle.complaint.specs.declared.Complaints.{Complaints}
 use Rattle.run.specs.declared.Run.{Run}
-use Rattle.dealing.specs.Definitions.{noDealings, setupOf, begunBatch, dealingNumber, withDealing, dealingStage, goNumber}
+use Rattle.dealing.specs.Definitions.{noDealings, setupOf, begunBatch, dealingNumber, withDealing}
 use Rattle.complaint.specs.Definitions.{noComplaints, complaintNumber, withComplaint, complaintStage, blamedBy}
 use Rattle.challenge.specs.declared.Challenges.{Challenges}
 use Rattle.verification.specs.Definitions.{transcript}
@@ -31,7 +31,7 @@ use Rattle.response.specs.Definitions.{responseNumber, withResponse, signatures
 use Rattle.challenge.specs.Definitions.{noChallenges, challengesFrom, withChallenges, withShifted}
 use Rattle.run.specs.Runs.{setChallenges, noScalars, begun, fresh, stageOf, transcriptOf}
 use Rattle.run.specs.Steps.{afterSetup, afterDealing, afterGo, afterComplaint, afterChallenges, afterShifted, withRow, finished, afterResponse, refused, answered, handled, stepOf, afterFrom, after}
-use Rattle.stages.specs.Definitions.{takenAt, atStage, handlerAt}
+use Rattle.stages.specs.Definitions.{takenAt, atStage, handlerAt, dealingStage, goNumber}
 use Rattle.run.specs.RunLaws.{formed-of, formed-batch}
 use Rattle.run.specs.StepLaws.{stage-case, answered-case}
 use Rattle.run.specs.declared.Reply.{Reply}

@@ -10,10 +10,10 @@ use Rattle.lists.specs.Tests.{require}
 use Rattle.lists.specs.TestLaws.{and-left, require-case, or-next-case}
 use Rattle.records.specs.Tags.{Tag, SU, SX, DE, GO, VE, CH, CS, RE, unknown, tagOf}
 use Rattle.refusals.specs.Refusals.{setupRefusal, headRefusal, dealingRefusal, complaintRefusal, scalarsRefusal, challengesRefusal, shiftedRefusal, responseRefusal}
-use Rattle.dealing.specs.Definitions.{dealingNumber, goNumber}
+use Rattle.dealing.specs.Definitions.{dealingNumber}
 use Rattle.complaint.specs.Definitions.{complaintNumber}
 use Rattle.response.specs.Definitions.{responseNumber}
-use Rattle.stages.specs.Definitions.{atStage, handlerAt}
+use Rattle.stages.specs.Definitions.{atStage, handlerAt, goNumber}
 use Rattle.stages.specs.declared.Handler.{Handler}
 use Rattle.stages.specs.declared.Handler.the-variants.{TakeSetup, TakeWaiting, TakeDealing, TakeGo, TakeComplaint, TakeChallenges, TakeShifted, TakeResponse}
 use Rattle.run.specs.declared.Run.{Run}

@@ -9,10 +9,10 @@ use Rattle.parameters.specs.Definitions.{mostParties, quorum}
 use Rattle.records.specs.Tags.{tagOf}
 use Rattle.refusals.specs.Refusals.{setupRefusal, challengesRefusal, shiftedRefusal}
 use Rattle.refusals.specs.RefusalLaws.{setup-passed}
-use Rattle.dealing.specs.Definitions.{noSetup, setupOf, dealingNumber, goNumber}
+use Rattle.dealing.specs.Definitions.{noSetup, setupOf, dealingNumber}
 use Rattle.complaint.specs.Definitions.{complaintNumber}
 use Rattle.response.specs.Definitions.{responseNumber}
-use Rattle.stages.specs.Definitions.{handlerAt}
+use Rattle.stages.specs.Definitions.{handlerAt, goNumber}
 use Rattle.stages.specs.declared.Handler.{Handler}
 use Rattle.stages.specs.declared.Handler.the-variants.{TakeSetup, TakeWaiting, TakeDealing, TakeGo, TakeComplaint, TakeChallenges, TakeShifted, TakeResponse, Refuse}
 use Rattle.run.specs.declared.Run.{Run}

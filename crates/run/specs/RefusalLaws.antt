@@ -9,7 +9,7 @@ use borrow.Author.Tests.{ne-eqb}
 use Rattle.lists.specs.Tests.{pick, require, orNext}
 use Rattle.records.specs.Tags.{tagOf}
 use Rattle.refusals.specs.Refusals.{setupRefusal, challengesRefusal, shiftedRefusal}
-use Rattle.dealing.specs.Definitions.{dealingNumber, goNumber}
+use Rattle.dealing.specs.Definitions.{dealingNumber}
 use Rattle.complaint.specs.Definitions.{complaintNumber}
 use Rattle.response.specs.Definitions.{responseNumber}
 use Rattle.run.specs.declared.Run.{Run}
@@ -17,7 +17,7 @@ use Rattle.stages.specs.declared.Handler.{Handler}
 use Rattle.stages.specs.declared.Handler.the-variants.{TakeSetup, TakeWaiting, TakeDealing, TakeGo, TakeComplaint, TakeChallenges, TakeShifted, TakeResponse, Refuse}
 use Rattle.run.specs.Runs.{stageOf}
 use Rattle.run.specs.Steps.{afterSetup, afterDealing, afterGo, afterComplaint, afterChallenges, afterShifted, afterResponse, refused, answered, handled, stepOf, untakenBy, untaken}
-use Rattle.stages.specs.Definitions.{handlerAt}
+use Rattle.stages.specs.Definitions.{handlerAt, goNumber}
 
 -- a record at its stage that is refused
 answered-refused : (r : Run) (k : ℕ) (next : Run) → (answered r k next .number ≡ 0 → ⊥) → answered r k next .run ≡ r

@@ -11,8 +11,9 @@ use lib.Dec.{eqb, leb}
 use Rattle.lists.specs.Tests.{pick}
 use Rattle.parameters.specs.Definitions.{batch}
 use Rattle.parameters.specs.ParameterLaws.{Bounds, bounds-of, bounds-test, batch-max}
+use Rattle.stages.specs.Definitions.{batchFits}
 use Rattle.run.specs.declared.Run.{Run}
-use Rattle.run.specs.Runs.{batchFits, wellFormed, stageOf}
+use Rattle.run.specs.Runs.{wellFormed, stageOf}
 
 -- ---- what the tests tell
 

@@ -1,6 +1,6 @@
 -- What a run keeps (document 01, "The run"; b is of document 02, request 2.5), and what it says.
-use Prim.Native.Nat.{ℕ, _-_}
-use mathlib.Core.Bool.{Bool, _&&_, _||_}
+use Prim.Native.Nat.{ℕ}
+use mathlib.Core.Bool.{Bool, _&&_}
 use mathlib.Core.List.{List}
 use lib.ListN.{getD}
 use lib.Dec.{eqb, leb}
@@ -8,9 +8,10 @@ use Rattle.lists.specs.Tests.{pick}
 use Rattle.lists.specs.Stores.{filled}
 use Rattle.field.specs.declared.Scalar.{Scalar}
 use Rattle.field.specs.Definitions.{scalar}
-use Rattle.parameters.specs.Definitions.{cells, inBounds, batch}
+use Rattle.parameters.specs.Definitions.{cells, inBounds}
 use Rattle.protocol.specs.Transcript.{Transcript}
 use Rattle.arrays.specs.Arrays.{cell}
+use Rattle.stages.specs.Definitions.{batchFits}
 use Rattle.dealing.specs.declared.Setup.{Setup}
 use Rattle.dealing.specs.declared.Dealings.{Dealings}
 use Rattle.complaint.specs.declared.Complaints.{Complaints}
@@ -69,10 +70,6 @@ unfoldable pub fresh : Run
 fresh = begun 0 0 noSetup
 
 -- ---- its stage
-
--- b is what the stage and the m dealings say: past stage 1 m-t, with at least n-t of them; before that the b of n-t, or 0 in a run that waits
-unfoldable pub batchFits : ℕ → ℕ → ℕ → ℕ → ℕ → Bool
-batchFits stage n t m b = pick (leb stage 1) (eqb b 0 || eqb b (batch (n - t) t)) (leb (n - t) m && eqb b (batch m t))
 
 -- what every run past stage 0 has that a list of records makes: a stage up to 6, parameters within the bounds, counts up to n, and its b
 unfoldable pub wellFormed : Run → Bool

@@ -10,11 +10,11 @@ use Rattle.parameters.specs.Definitions.{quorum, batch}
 use Rattle.records.specs.Bytes.{sender}
 use Rattle.records.specs.Tags.{tagOf}
 use Rattle.refusals.specs.Refusals.{setupRefusal, challengesRefusal, shiftedRefusal, responseRefusal}
-use Rattle.dealing.specs.Definitions.{setupOf, begunBatch, dealingNumber, withDealing, dealingStage, goNumber}
+use Rattle.dealing.specs.Definitions.{setupOf, begunBatch, dealingNumber, withDealing}
 use Rattle.complaint.specs.Definitions.{complaintNumber, withComplaint, complaintStage}
 use Rattle.response.specs.Definitions.{responseNumber, withResponse, signaturesOf}
 use Rattle.challenge.specs.Definitions.{withChallenges, withShifted}
-use Rattle.stages.specs.Definitions.{handlerAt}
+use Rattle.stages.specs.Definitions.{handlerAt, dealingStage, goNumber}
 use Rattle.run.specs.declared.Run.{Run}
 use Rattle.run.specs.declared.Reply.{Reply}
 use Rattle.stages.specs.declared.Handler.{Handler}

@@ -5,10 +5,11 @@ ghost use Prim.Native.Nat.{_+_, _≤_};
 ghost use Rattle.lists.specs.Tests.{require, orNext};
 ghost use Rattle.parameters.specs.Definitions.{inBounds};
 ghost use Rattle.refusals.specs.Refusals.{setupRefusal, challengesRefusal, shiftedRefusal};
-ghost use Rattle.dealing.specs.Definitions.{dealingNumber, goNumber};
+ghost use Rattle.stages.specs.Definitions.{goNumber};
+ghost use Rattle.dealing.specs.Definitions.{dealingNumber};
 ghost use Rattle.complaint.specs.Definitions.{complaintNumber};
 ghost use Rattle.response.specs.Definitions.{responseNumber};
-ghost use Rattle.run.specs.Runs.{setChallenges, fresh, begun, batchFits, wellFormed, stageOf};
+ghost use Rattle.run.specs.Runs.{setChallenges, fresh, begun, wellFormed, stageOf};
 ghost use Rattle.run.specs.Steps.{refused, answered, afterSetup, afterDealing, afterGo, afterComplaint, afterChallenges, afterShifted, finished, afterResponse, stepOf, untaken};
 use challenge::Challenges;
 use complaint::Complaints;
@@ -49,23 +50,6 @@ fn or_next(number: u8, passed: bool, next: u8) -> u8
         return number;
     }
     if passed { 0 } else { next }
-}
-
-// Whether b is what the stage and the m dealings say: past stage 1 m-t, with at least n-t of them; before that the b of n-t, or 0 in a run that waits.
-fn batch_fits(stage: u8, n: u8, t: u8, m: u8, b: u8) -> bool
-    requires { ⌜ t ≤ n ⌝ }
-    ensures { λ r. ⌜ r ≡ batchFits stage n t m b ⌝ }
-{
-    if 1 < stage {
-        if m < n - t {
-            return false;
-        }
-        return b == parameters::batch(m, t);
-    }
-    if b == 0 {
-        return true;
-    }
-    b == parameters::batch(n - t, t)
 }
 
 impl Run {
@@ -136,7 +120,7 @@ impl Run {
         if n < self.responses.count {
             return false;
         }
-        batch_fits(self.stage, n, self.setup.t, self.dealings.count, self.b)
+        stages::batch_fits(self.stage, n, self.setup.t, self.dealings.count, self.b)
     }
 
     // The stage; past 0, 6 for a run that is not well formed.
@@ -187,7 +171,7 @@ impl Run {
         }
         let dealings = old.with(setup, bytes);
         let mut next = self;
-        next.stage = dealing::dealing_stage(setup.n, setup.t, dealings.count, self.b);
+        next.stage = stages::dealing_stage(setup.n, setup.t, dealings.count, self.b);
         next.dealings = dealings;
         Reply {
             run: next,
@@ -200,7 +184,7 @@ impl Run {
     {
         let t = self.setup.t;
         let m = self.dealings.count;
-        let number = dealing::go_number(self.setup.n, t, m, self.b, bytes);
+        let number = stages::go_number(self.setup.n, t, m, self.b, bytes);
         if number != 0 {
             return self.answer(number);
         }
@@ -340,7 +324,7 @@ impl Run {
                 let number = refusals::dealing_refusal(n, t, a, bytes);
                 or_next(number, !sets::has(self.dealings.dealers, j), 12)
             }
-            Handler::TakeGo => dealing::go_number(n, t, self.dealings.count, b, bytes),
+            Handler::TakeGo => stages::go_number(n, t, self.dealings.count, b, bytes),
             Handler::TakeComplaint => {
                 let number = refusals::complaint_refusal(n, bytes);
                 let sent = or_next(number, !sets::has(self.complaints.holders, j), 12);

@@ -13,13 +13,13 @@ use Rattle.sets.specs.Masks.{has, count}
 use Rattle.parameters.specs.Definitions.{quorum}
 use Rattle.records.specs.Tags.{Tag, SU, SX, DE, GO, VE, CH, CS, RE, unknown, tagOf}
 use Rattle.refusals.specs.Refusals.{setupRefusal, challengesRefusal, shiftedRefusal}
-use Rattle.dealing.specs.Definitions.{dealingNumber, dealingStage, goNumber}
+use Rattle.dealing.specs.Definitions.{dealingNumber}
 use Rattle.complaint.specs.declared.Complaints.{Complaints}
 use Rattle.complaint.specs.Definitions.{blamedBy, complaintNumber, withComplaint, complaintStage}
 use Rattle.challenge.specs.declared.Challenges.{Challenges}
 use Rattle.dealing.specs.declared.Setup.{Setup}
 use Rattle.response.specs.Definitions.{responseNumber}
-use Rattle.stages.specs.Definitions.{takenAt, atStage, handlerAt}
+use Rattle.stages.specs.Definitions.{takenAt, atStage, handlerAt, dealingStage, goNumber}
 use Rattle.stages.specs.declared.Handler.{Handler}
 use Rattle.stages.specs.declared.Handler.the-variants.{TakeSetup, TakeWaiting, TakeDealing, TakeGo, TakeComplaint, TakeChallenges, TakeShifted, TakeResponse, Refuse}
 use Rattle.run.specs.declared.Run.{Run}

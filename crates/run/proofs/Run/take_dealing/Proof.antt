@@ -5,8 +5,9 @@ use mathlib.Core.Path.{ap, ap₂, sym, _∙_}
 use Rattle.lists.specs.TestLaws.{or-next}
 use Rattle.parameters.specs.ParameterLaws.{bounds-test}
 use Rattle.refusals.specs.RefusalLaws.{dealing-passed}
+use Rattle.stages.specs.Definitions.{dealingStage}
 use Rattle.dealing.specs.declared.Dealings.{Dealings}
-use Rattle.dealing.specs.Definitions.{dealingNumber, withDealing, dealingStage}
+use Rattle.dealing.specs.Definitions.{dealingNumber, withDealing}
 use Rattle.run.specs.Runs.{setDealings}
 use Rattle.run.specs.Steps.{afterDealing}
 use Rattle.run.specs.RunLaws.{formed-of}

@@ -4,9 +4,9 @@ use borrow.Author.Tests.{eq-eqb, ne-eqb, le-leb, lt-leb}
 use native.Mathlib.Omega.{arith}
 use Prim.Native.Nat.{_-_}
 use Rattle.lists.specs.Tests.{require}
-use Rattle.dealing.specs.Definitions.{goNumber}
-use Rattle.dealing.proofs.go_number.Statement.{statement}
-use Rattle.dealing.proofs.go_number.Tie as tie
+use Rattle.stages.specs.Definitions.{goNumber}
+use Rattle.stages.proofs.go_number.Statement.{statement}
+use Rattle.stages.proofs.go_number.Tie as tie
 
 returns : tie.Need-returns
 unfolding goNumber require

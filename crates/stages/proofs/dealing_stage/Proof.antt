@@ -6,9 +6,9 @@ use mathlib.Core.Bool.{Bool}
 use Prim.Native.Nat.{ℕ, _-_}
 use lib.Dec.{eqb}
 use Rattle.lists.specs.Tests.{pick}
-use Rattle.dealing.specs.Definitions.{dealingStage}
-use Rattle.dealing.proofs.dealing_stage.Statement.{statement}
-use Rattle.dealing.proofs.dealing_stage.Tie as tie
+use Rattle.stages.specs.Definitions.{dealingStage}
+use Rattle.stages.proofs.dealing_stage.Statement.{statement}
+use Rattle.stages.proofs.dealing_stage.Tie as tie
 
 -- in a run that waits, and in one that does not
 waits : (n t m b : ℕ) → b ≡ 0 → dealingStage n t m b ≡ 1

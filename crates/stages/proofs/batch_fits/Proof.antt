@@ -4,9 +4,9 @@ use borrow.Author.Tests.{le-leb, lt-leb, eq-eqb, ne-eqb}
 use mathlib.Core.Path.{ap}
 use lib.Dec.{eqb}
 use Prim.Native.Nat.{_-_}
-use Rattle.run.specs.Runs.{batchFits}
-use Rattle.run.proofs.batch_fits.Statement.{statement}
-use Rattle.run.proofs.batch_fits.Tie as tie
+use Rattle.stages.specs.Definitions.{batchFits}
+use Rattle.stages.proofs.batch_fits.Statement.{statement}
+use Rattle.stages.proofs.batch_fits.Tie as tie
 
 sub-if2 : tie.Need-sub-if2
 sub-if2 c = search needs
