@@ -1,8 +1,7 @@
--- The bytes that a reading for the sets alone consumes, from the records of the complete reading (document 02, request 2.6). That its sets are those of
--- the complete reading is the contract of `summary_of`. Assumes nothing.
+-- The sets and the bytes of a reading for the sets alone, from the records of the complete reading (document 02, request 2.6). Assumes nothing.
 use mathlib.Core.Path.{_≡_, refl, sym, ap, subst, _∙_}
 use mathlib.Core.Bool.{Bool, true, false}
-use mathlib.Core.Logic.{_⊎_, inl, inr, _≢_, ⊎-elim}
+use mathlib.Core.Logic.{_⊎_, inl, inr, ⊎-elim}
 use mathlib.Core.List.{List, [], _∷_, _++_, append-nil, append-assoc}
 use Prim.Native.Nat.{ℕ, _+_, _≤_, _<_}
 use native.Mathlib.Omega.{arith}
@@ -16,14 +15,14 @@ use Rattle.run.specs.Runs.{fresh, begun, stageOf}
 use Rattle.run.specs.Steps.{stepOf, afterFrom, after}
 use Rattle.run.specs.RunLaws.{stage-none}
 use Rattle.run.specs.RefusalLaws.{refusal-keeps}
+use Rattle.answers.specs.Answers.{setsOf}
 use Rattle.log.specs.Cutting.{recordsOf, runOf}
-use Rattle.log.specs.Turns.{recordsFrom}
 use Rattle.log.specs.Endings.{records-start}
 use Rattle.log.specs.Report.{longWord, longest}
 use Rattle.summary.specs.Consumed.{settled, upTo, readOf, countedFrom, consumed, summed}
 use Rattle.summary.specs.Short.{bytesWord, shortLines, shortOf}
 use Rattle.summary.specs.StageLaws.{Late, late-step, early-step, settled-late, late-settled}
-use Rattle.summary.specs.ReadLaws.{upTo-brought, upTo-all}
+use Rattle.summary.specs.ReadLaws.{upTo-brought, upTo-all, read-enough}
 use Rattle.summary.specs.CountLaws.{counted-brought}
 use Rattle.promises.specs.Lists.{accepted}
 use Rattle.promises.specs.Claims.{memberLines}
@@ -111,6 +110,13 @@ brought-or-early log = go (decLt (stageAfter (recordsOf log)) 3)
     go : Dec (stageAfter (recordsOf log) < 3) → Brought (recordsOf log) ⊎ (stageAfter (recordsOf log) < 3)
     go (yes m) = inr m
     go (no n) = inl (first-brings [] (recordsOf log) fresh-early (omega arith))
+
+-- ---- the sets
+
+-- The sets after the records that are read are those after all records of the log, fixed or not.
+pub sets-alone : (log : List ℕ) → setsOf (after (readOf log)) ≡ setsOf (after (recordsOf log))
+unfolding runOf
+sets-alone log = read-enough log .sets-same
 
 -- ---- the bytes
 

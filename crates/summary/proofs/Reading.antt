@@ -4,13 +4,13 @@ use mathlib.Core.Bool.{true, false}
 use mathlib.Core.List.{List, []}
 use Prim.Native.Nat.{ℕ, _+_, _≤_, _<_}
 use native.Mathlib.Omega.{arith}
-use lib.ListN.{length, take, drop, length-drop, drop-of-length-le}
+use lib.ListN.{length, drop, length-drop, drop-of-length-le}
 use lib.Seq.{drop-drop, length-take-le}
 use Rattle.run.specs.declared.Run.{Run}
 use Rattle.run.specs.Runs.{fresh}
 use Rattle.run.specs.Steps.{stepOf, afterFrom, after}
 use Rattle.log.specs.Cutting.{lengthOf}
-use Rattle.log.specs.Turns.{nextLength, nextRecord, nextRest}
+use Rattle.log.specs.Turns.{nextLength, nextRecord}
 use Rattle.log.specs.TurnLaws.{next-max}
 use Rattle.summary.specs.Consumed.{settled, readOf, countedLength, countedFrom, consumed}
 use Rattle.summary.specs.ReadLaws.{readFrom, read-start, read-none, read-settled, read-next}

@@ -8,7 +8,7 @@ use native.Mathlib.Omega.{arith}
 use lib.ListN.{length, take, drop, getD, length-drop}
 use lib.Seq.{length-take-le, getD-take}
 use lib.Dec.{eqb, leb}
-use borrow.Author.Tests.{le-leb, le-ltb, leb-true, leb-false}
+use borrow.Author.Tests.{le-leb, le-ltb, leb-true}
 use Rattle.lists.specs.Tests.{pick}
 use Rattle.lists.specs.TestLaws.{pick-case}
 use Rattle.records.specs.Bytes.{byteAt}

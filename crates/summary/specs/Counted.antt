@@ -1,26 +1,21 @@
 -- What the record counts on which the reading of a log ends (document 02, request 2.6). Endings.antt of the log says which these are: every other
 -- record is whole, and counts its length (counted-whole). Assumes nothing.
-use mathlib.Core.Path.{_≡_, refl, sym, ap, _∙_}
-use mathlib.Core.Bool.{Bool, true, false}
-use mathlib.Core.Logic.{_⊎_, inl, inr, _≢_, ⊎-elim}
+use mathlib.Core.Path.{_≡_, sym, ap, _∙_}
+use mathlib.Core.Logic.{inl, inr, _≢_}
 use mathlib.Core.List.{List}
 use Prim.Native.Nat.{ℕ, _≤_, _<_}
 use native.Mathlib.Omega.{arith}
-use native.Mathlib.Decide.{decLt}
 use lib.ListN.{length}
-use lib.Dec.{eqb, leb}
-use borrow.Author.Tests.{lt-leb, eq-eqb, ne-eqb}
-use Rattle.lists.specs.Tests.{pick}
+use lib.Dec.{eqb}
+use borrow.Author.Tests.{lt-leb, ne-eqb}
 use Rattle.lists.specs.TestLaws.{pick-case}
-use Rattle.records.specs.Tags.{Tag, SU, SX, DE, GO, VE, CH, CS, RE, unknown, code, decoded, tagOf, goLength}
+use Rattle.records.specs.Tags.{Tag, SU, SX, GO, CH, CS, RE, unknown, code, decoded, tagOf, goLength}
 use Rattle.records.specs.RecordLaws.{decoded-code}
 use Rattle.run.specs.declared.Run.{Run}
-use Rattle.run.specs.Runs.{stageOf}
-use Rattle.run.specs.RunLaws.{stage-past}
-use Rattle.log.specs.Cutting.{ownLength, byBatch, lengthAt, lengthOf}
-use Rattle.log.specs.Turns.{BeforeSetup, BeforeGo, Begins, Cut}
+use Rattle.log.specs.Cutting.{ownLength, lengthAt, lengthOf}
+use Rattle.log.specs.Turns.{BeforeSetup, BeforeGo, Cut}
 use Rattle.log.specs.TurnLaws.{none-yet}
-use Rattle.log.specs.Endings.{short-unknown, stage-first, known-long, waits-length}
+use Rattle.log.specs.Endings.{stage-first, known-long, waits-length}
 use Rattle.summary.specs.Consumed.{fixedLength, countedBy, countedLength}
 use Rattle.summary.specs.CountLaws.{counted-full}
 

@@ -1,11 +1,11 @@
 -- What a record does to the stage, before the sets are fixed and after; then it changes nothing that they are read from. Assumes nothing.
 use mathlib.Core.Path.{_≡_, refl, subst⁻¹, _∙_}
-use mathlib.Core.Bool.{Bool, true, false}
+use mathlib.Core.Bool.{true, false}
 use mathlib.Core.Logic.{_⊎_, inl, inr, ⊎-elim}
 use mathlib.Core.List.{List, [], _∷_}
 use Prim.Native.Nat.{ℕ, _+_, _-_, _≤_, _<_}
 use native.Mathlib.Omega.{arith}
-use lib.Dec.{eqb, leb, ltb}
+use lib.Dec.{eqb, ltb}
 use borrow.Author.Tests.{leb-true, leb-false, le-leb}
 use Rattle.lists.specs.Tests.{pick}
 use Rattle.lists.specs.TestLaws.{pick-case}
@@ -16,19 +16,18 @@ use Rattle.refusals.specs.Refusals.{setupRefusal, challengesRefusal, shiftedRef
 use Rattle.dealing.specs.Definitions.{dealingNumber}
 use Rattle.complaint.specs.declared.Complaints.{Complaints}
 use Rattle.complaint.specs.Definitions.{blamedBy, complaintNumber, withComplaint, complaintStage}
-use Rattle.challenge.specs.declared.Challenges.{Challenges}
 use Rattle.dealing.specs.declared.Setup.{Setup}
 use Rattle.response.specs.Definitions.{responseNumber}
 use Rattle.stages.specs.Definitions.{takenAt, atStage, handlerAt, dealingStage, goNumber}
 use Rattle.stages.specs.declared.Handler.{Handler}
-use Rattle.stages.specs.declared.Handler.the-variants.{TakeSetup, TakeWaiting, TakeDealing, TakeGo, TakeComplaint, TakeChallenges, TakeShifted, TakeResponse, Refuse}
+use Rattle.stages.specs.declared.Handler.the-variants.{TakeSetup, TakeWaiting, TakeDealing, TakeGo, TakeComplaint, TakeChallenges, TakeShifted, TakeResponse}
 use Rattle.run.specs.declared.Run.{Run}
 use Rattle.run.specs.declared.Reply.{Reply}
-use Rattle.run.specs.Runs.{setChallenges, begun, wellFormed, stageOf}
+use Rattle.run.specs.Runs.{begun, wellFormed, stageOf}
 use Rattle.run.specs.RunLaws.{stage-past}
 use Rattle.run.specs.Steps.{afterSetup, afterDealing, afterGo, afterComplaint, afterChallenges, afterShifted, withRow, finished, afterResponse, answered, handled, stepOf, afterFrom}
 use Rattle.run.specs.StepLaws.{stage-case, answered-case}
-use Rattle.answers.specs.Answers.{badOf, unblamedOf, noSets, keptSets, setsOf}
+use Rattle.answers.specs.Answers.{badOf, unblamedOf, keptSets, setsOf}
 use Rattle.summary.specs.Consumed.{settled}
 
 -- ---- the stage as a test

@@ -24,9 +24,9 @@ pub struct Summary {
 }
 
 // The run after the records that were read, and the bytes that they count.
-pub struct Passage {
-    pub run: Run,
-    pub bytes: usize,
+struct Passage {
+    run: Run,
+    bytes: usize,
 }
 
 // The length that a record's tag fixes, from the one by which it is passed over; 0 where there is none.

@@ -1,18 +1,14 @@
 -- `put_short` meets its contract: the lines of the sets, then that of the bytes. Assumes nothing.
 use mathlib.Core.Path.{_≡_, refl, sym, ap, subst, _∙_}
-use mathlib.Core.List.{List, [], _∷_}
-use Prim.Native.Nat.{ℕ, _+_, _≤_}
+use Prim.Native.Nat.{_≤_}
 use native.Mathlib.Omega.{arith}
 use borrow.Author.Needs.{needs}
 use lib.ListN.{length}
-use Rattle.text.specs.Lines.{line}
-use Rattle.text.specs.Texts.{Wrote}
 use Rattle.text.specs.TextLaws.{wrote-append}
-use Rattle.run.specs.declared.Run.{Run}
 use Rattle.run.specs.PartyLaws.{Few}
 use Rattle.closing.specs.Closing.{mostSets, setLines}
 use Rattle.closing.specs.LengthLaws.{sets-max}
-use Rattle.summary.specs.Short.{bytesWord, shortLines}
+use Rattle.summary.specs.Short.{shortLines}
 use Rattle.summary.specs.ShortLaws.{read-few, read-lines}
 use Rattle.summary.specs.CountLaws.{consumed-max}
 use Rattle.summary.proofs.put_short.Statement.{statement}

@@ -1,15 +1,12 @@
 -- `read_on` meets its contract. The loop reads the log turn by turn; the measure is what is left of it. Assumes nothing.
-use mathlib.Core.Path.{_≡_, sym, ap, ap₂, subst, _∙_}
-use mathlib.Core.Bool.{false}
-use mathlib.Core.List.{List}
+use mathlib.Core.Path.{_≡_, sym, ap, ap₂, _∙_}
 use mathlib.Core.Logic.{⊎-elim, _≢_}
-use Prim.Native.Nat.{ℕ, _+_, _-_, _≤_, _<_}
+use Prim.Native.Nat.{_+_, _-_, _≤_, _<_}
 use native.Mathlib.Omega.{arith}
 use borrow.Author.Needs.{needs}
 use lib.ListN.{length, take, drop, length-drop}
 use lib.Seq.{length-take-le}
 use Rattle.run.specs.declared.Reply.{Reply}
-use Rattle.run.specs.declared.Run.{Run}
 use Rattle.run.specs.Steps.{stepOf, untaken}
 use Rattle.run.specs.RefusalLaws.{untaken-refused}
 use Rattle.log.specs.Cutting.{lengthOf}
