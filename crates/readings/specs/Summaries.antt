@@ -111,6 +111,23 @@ brought-or-early log = go (decLt (stageAfter (recordsOf log)) 3)
     go (yes m) = inr m
     go (no n) = inl (first-brings [] (recordsOf log) fresh-early (omega arith))
 
+-- ---- the records that are read
+
+-- Where a record of the log brings stage 3 or 6, the reading ends with it.
+pub read-brought : (log : List ℕ) (l : List (List ℕ)) (s : List ℕ) (m : List (List ℕ)) → recordsOf log ≡ l ++ (s ∷ m) → Brings l s → readOf log ≡ l ++ (s ∷ [])
+unfolding readOf after
+read-brought log l s m e b =
+    ap (upTo fresh) e ∙ upTo-brought fresh l s m (early-unsettled (after l) (brings-early l s b)) (brings-settles l s b)
+
+-- Where none does, all records are read.
+pub read-unbrought : (log : List ℕ) → (Brought (recordsOf log) → ⊥) → readOf log ≡ recordsOf log
+unfolding readOf after runOf
+read-unbrought log none = go (brought-or-early log)
+  where
+    go : Brought (recordsOf log) ⊎ (stageOf (runOf log) < 3) → upTo fresh (recordsOf log) ≡ recordsOf log
+    go (inl b) = absurd (none b)
+    go (inr m) = upTo-all fresh (recordsOf log) (early-unsettled (afterFrom fresh (recordsOf log)) m)
+
 -- ---- the sets
 
 -- The sets after the records that are read are those after all records of the log, fixed or not.
@@ -122,20 +139,14 @@ sets-alone log = read-enough log .sets-same
 
 -- Where a record of the log brings stage 3 or 6, the bytes are the summed lengths of the records up to and with it, refused ones included.
 pub bytes-brought : (log : List ℕ) (l : List (List ℕ)) (s : List ℕ) (m : List (List ℕ)) → recordsOf log ≡ l ++ (s ∷ m) → Brings l s → consumed log ≡ summed (l ++ (s ∷ []))
-unfolding consumed readOf after
+unfolding consumed after
 bytes-brought log l s m e b =
-    ap (countedFrom fresh)
-    (ap (upTo fresh) e ∙ upTo-brought fresh l s m (early-unsettled (after l) (brings-early l s b)) (brings-settles l s b))
-    ∙ counted-brought l fresh log s m (sym (records-start log) ∙ e) (brings-accepted l s b)
+    ap (countedFrom fresh) (read-brought log l s m e b) ∙ counted-brought l fresh log s m (sym (records-start log) ∙ e) (brings-accepted l s b)
 
 -- Where none does, they are what all the records of the log count: each complete one with a known tag and a fixed length that length, any other 0.
 pub bytes-unbrought : (log : List ℕ) → (Brought (recordsOf log) → ⊥) → consumed log ≡ countedFrom fresh (recordsOf log)
-unfolding consumed readOf after runOf
-bytes-unbrought log none = go (brought-or-early log)
-  where
-    go : Brought (recordsOf log) ⊎ (stageOf (runOf log) < 3) → countedFrom fresh (upTo fresh (recordsOf log)) ≡ countedFrom fresh (recordsOf log)
-    go (inl b) = absurd (none b)
-    go (inr m) = ap (countedFrom fresh) (upTo-all fresh (recordsOf log) (early-unsettled (afterFrom fresh (recordsOf log)) m))
+unfolding consumed
+bytes-unbrought log none = ap (countedFrom fresh) (read-unbrought log none)
 
 -- ---- the short page
 
