@@ -54,6 +54,14 @@ next-max r s = pick-case (λ (n : ℕ). n ≤ length s) (whole r s) (lengthOf r 
 pub left-is : (log : List ℕ) (from : ℕ) → take (length log - from) (drop from log) ≡ drop from log
 left-is log from = take-all (length log - from) (drop from log) (omega (arith, length-drop from log))
 
+-- the next record has from 1 byte to all that is left
+pub next-within : (log : List ℕ) (from : ℕ) (r : Run) → from < length log
+    → (0 < nextLength r (drop from log)) × (from + nextLength r (drop from log) ≤ length log)
+next-within log from r l =
+    let s = drop from log in
+    let left = length-drop from log in
+    (next-pos r s (omega arith), omega (arith, left, next-max r s))
+
 -- ---- records, turn by turn
 
 -- the bound of the records does not matter where it is large enough

@@ -15,7 +15,7 @@ use Rattle.run.specs.Steps.{stepOf, untaken}
 use Rattle.run.specs.RefusalLaws.{refusal-keeps, untaken-refused}
 use Rattle.log.specs.Report.{refusalLine}
 use Rattle.log.specs.Turns.{nextLength, nextRecord}
-use Rattle.log.specs.TurnLaws.{next-pos, next-max, left-is}
+use Rattle.log.specs.TurnLaws.{next-within, left-is}
 use Rattle.log.proofs.Reading.{Reading, reading-start, reading-place, reading-length, reading-next, reading-lines, reading-run}
 use Rattle.log.proofs.put_page.Statement.{statement}
 use Rattle.log.proofs.put_page.Tie as tie
@@ -59,10 +59,7 @@ passed : (c : tie.After-next-length Inv-loop μ-loop) →
 passed c =
     let i = c .before .before in
     let l = i .before in
-    let log = l .before .before .before .before .args .log .now in
-    let s = drop (l .loop .from) log in
-    let some : 0 < length s = omega (arith, i .loop-test .taken, length-drop (l .loop .from) log) in
-    (omega (arith, measured c, next-pos (l .loop .run) s some), omega (arith, measured c, next-max (l .loop .run) s, length-drop (l .loop .from) log, l .loop .inv .within))
+    rw (measured c) (next-within (l .before .before .before .before .args .log .now) (l .loop .from) (l .loop .run) (i .loop-test .taken))
 
 slice-aggregate-record : tie.Need-slice-aggregate-record Inv-loop μ-loop
 slice-aggregate-record c =

@@ -11,7 +11,7 @@ use Rattle.run.specs.Steps.{stepOf, untaken}
 use Rattle.run.specs.RefusalLaws.{untaken-refused}
 use Rattle.log.specs.Cutting.{lengthOf}
 use Rattle.log.specs.Turns.{nextLength, nextRecord}
-use Rattle.log.specs.TurnLaws.{next-pos, next-max, left-is}
+use Rattle.log.specs.TurnLaws.{next-max, next-within, left-is}
 use Rattle.summary.specs.Consumed.{settled, countedBy, countedLength}
 use Rattle.summary.specs.CountLaws.{counted-max}
 use Rattle.summary.proofs.Reading.{Reading, reading-start, reading-next, reading-settled, reading-last}
@@ -66,10 +66,7 @@ passed : (c : tie.After-next-length Inv-loop μ-loop) →
 passed c =
     let i = c .before .before .before .before in
     let l = i .before in
-    let log = l .before .before .before .args .log .now in
-    let s = drop (l .loop .from) log in
-    let some : 0 < length s = omega (arith, i .loop-test .taken, length-drop (l .loop .from) log) in
-    (omega (arith, measured c, next-pos (l .loop .run) s some), omega (arith, measured c, next-max (l .loop .run) s, length-drop (l .loop .from) log, l .loop .inv .within))
+    rw (measured c) (next-within (l .before .before .before .args .log .now) (l .loop .from) (l .loop .run) (i .loop-test .taken))
 
 slice-aggregate-record : tie.Need-slice-aggregate-record Inv-loop μ-loop
 slice-aggregate-record c =
