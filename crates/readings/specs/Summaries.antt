@@ -1,6 +1,6 @@
 -- The sets and the bytes of a reading for the sets alone, from the records of the complete reading (document 02, request 2.6). Assumes nothing.
 use mathlib.Core.Path.{_≡_, refl, sym, ap, subst, _∙_}
-use mathlib.Core.Bool.{Bool, true, false}
+use mathlib.Core.Bool.{true}
 use mathlib.Core.Logic.{_⊎_, inl, inr, ⊎-elim}
 use mathlib.Core.List.{List, [], _∷_, _++_, append-nil, append-assoc}
 use Prim.Native.Nat.{ℕ, _+_, _≤_, _<_}
@@ -21,19 +21,17 @@ use Rattle.log.specs.Endings.{records-start}
 use Rattle.log.specs.Report.{longWord, longest}
 use Rattle.summary.specs.Consumed.{settled, upTo, readOf, countedFrom, consumed, summed}
 use Rattle.summary.specs.Short.{bytesWord, shortLines, shortOf}
-use Rattle.summary.specs.StageLaws.{Late, late-step, early-step, settled-late, late-settled}
+use Rattle.summary.specs.StageLaws.{Late, late-step, early-step, late-settled, early-unsettled}
 use Rattle.summary.specs.ReadLaws.{upTo-brought, upTo-all, read-enough}
 use Rattle.summary.specs.CountLaws.{counted-brought}
 use Rattle.promises.specs.Lists.{accepted}
+use Rattle.promises.specs.ListLaws.{snoc}
 use Rattle.promises.specs.Claims.{memberLines}
 use Rattle.promises.specs.MadeLaws.{made-stage}
 use Rattle.promises.specs.Pages.{sets-are}
 use Rattle.readings.specs.Brought.{stageAfter, Brings, Brought}
 
 -- ---- one record more
-
-abbrev snoc : List (List ℕ) → List ℕ → List (List ℕ)
-snoc l s = l ++ (s ∷ [])
 
 from-snoc : (r : Run) (l : List (List ℕ)) (s : List ℕ) → afterFrom r (snoc l s) ≡ stepOf (afterFrom r l) s .run
 unfolding afterFrom
@@ -76,13 +74,6 @@ module _ (l : List (List ℕ)) (s : List ℕ) where
       go : Dec (stepOf (after l) s .number ≡ 0) → stepOf (after l) s .number ≡ 0
       go (yes e) = e
       go (no n) = absurd (d (ap stageOf (sym (refusal-keeps (after l) s n) ∙ sym (after-snoc l s))))
-
-early-unsettled : (r : Run) → stageOf r < 3 → settled r ≡ false
-early-unsettled r m = go (settled r) refl
-  where
-    go : (b : Bool) → settled r ≡ b → b ≡ false
-    go true e = absurd (omega (arith, settled-late r e))
-    go false e = refl
 
 -- ---- whether a record brings stage 3 or 6
 

@@ -6,7 +6,7 @@ use mathlib.Core.List.{List, [], _∷_}
 use Prim.Native.Nat.{ℕ, _+_, _-_, _≤_, _<_}
 use native.Mathlib.Omega.{arith}
 use lib.Dec.{eqb, ltb}
-use borrow.Author.Tests.{leb-true, leb-false, le-leb}
+use borrow.Author.Tests.{leb-true, le-leb, lt-leb}
 use Rattle.lists.specs.Tests.{pick}
 use Rattle.lists.specs.TestLaws.{pick-case}
 use Rattle.sets.specs.Masks.{has, count}
@@ -40,9 +40,9 @@ pub late-settled : (r : Run) → 3 ≤ stageOf r → settled r ≡ true
 unfolding settled
 late-settled r l = le-leb 3 (stageOf r) l
 
-pub unsettled-early : (r : Run) → settled r ≡ false → stageOf r < 3
+pub early-unsettled : (r : Run) → stageOf r < 3 → settled r ≡ false
 unfolding settled
-unsettled-early r e = leb-false 3 (stageOf r) e
+early-unsettled r l = lt-leb 3 (stageOf r) l
 
 -- ---- once the sets are fixed
 
