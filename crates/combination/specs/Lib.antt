@@ -1,3 +1,5 @@
 pub mod Combination
 pub mod CombinedLaws
 pub mod PowerLaws
+pub mod Tables
+pub mod TableLaws

@@ -195,6 +195,11 @@ pub product-powered : (v w : Element) (e : ℕ) → powered (product v w) e ≡ 
 unfolding product powered
 product-powered v w e = ap element (mul-power (v .0) (w .0) e)
 
+-- the powers of one number
+pub powered-add : (v : Element) (a b : ℕ) → powered v (a + b) ≡ product (powered v a) (powered v b)
+unfolding product powered
+powered-add v a b = ap element (power-add (v .0) a b)
+
 -- a power of a power
 pub powered-powered : (v : Element) (a b : ℕ) → powered (powered v a) b ≡ powered v (a * b)
 unfolding powered

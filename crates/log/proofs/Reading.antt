@@ -1,21 +1,24 @@
 -- What stands while a log is read: the page is stored up to the records passed, and the run is theirs. Assumes nothing.
-use mathlib.Core.Path.{_≡_, refl, sym, ap, subst, subst⁻¹, _∙_}
-use mathlib.Core.List.{List, _++_}
+use mathlib.Core.Path.{_≡_, refl, sym, ap, ap₂, subst, subst⁻¹, _∙_}
+use mathlib.Core.List.{List, [], _∷_, _++_}
 use Prim.Native.Nat.{ℕ, _+_, _*_, _≤_, _<_}
 use native.Mathlib.Omega.{arith}
-use lib.ListN.{length, drop, length-drop, drop-of-length-le}
-use lib.Seq.{drop-drop}
+use lib.ListN.{length, take, drop, set, length-drop, drop-of-length-le}
+use lib.Seq.{drop-drop, take-suc-set}
 use Rattle.text.specs.Texts.{Wrote, Ahead}
 use Rattle.text.specs.TextLaws.{wrote-none, ahead-start, ahead-next, ahead-last, ahead-length}
 use Rattle.run.specs.declared.Run.{Run}
 use Rattle.run.specs.Runs.{fresh}
-use Rattle.run.specs.Steps.{stepOf}
-use Rattle.run.specs.PartyLaws.{Few, few-fresh, few-step}
+use Rattle.run.specs.Steps.{stepOf, afterFrom}
+use Rattle.run.specs.PartyLaws.{Few, few-fresh, few-after}
 use Rattle.log.specs.Cutting.{runOf, recordsOf}
-use Rattle.log.specs.Report.{longest, refusalLine, refusalLines}
+use Rattle.log.specs.Report.{longest, refusalLines}
 use Rattle.log.specs.LengthLaws.{lines-max}
 use Rattle.log.specs.Turns.{nextLength, nextRecord, linesFrom, runFrom}
-use Rattle.log.specs.TurnLaws.{next-pos, next-max, lines-none, lines-next, lines-start, run-none, run-next, run-start}
+use Rattle.log.specs.TurnLaws.{lines-none, lines-start, run-none, run-start}
+use Rattle.log.specs.Stretches.{numberLines}
+use Rattle.log.specs.StretchLaws.{Turn, turn-lines, turn-run, turn-record}
+use Rattle.bundle.specs.Bundles.{numbersFrom}
 
 pub record Reading (log before after : List ℕ) (r : Run) (from at position : ℕ) : Type 0 where
   pub within : from ≤ length log
@@ -23,6 +26,40 @@ pub record Reading (log before after : List ℕ) (r : Run) (from at position : �
   pub few : Few r
   pub lines : Ahead before after at (linesFrom 1 fresh log) (linesFrom position r (drop from log))
   pub same-run : runFrom r (drop from log) ≡ runFrom fresh log
+
+-- what a turn has given to a run: its next records, with the run after them and, in the first places of a list, their numbers
+pub record Given (r : Run) (s : List ℕ) (run : Run) (numbers : List ℕ) (count size : ℕ) : Type 0 where
+  pub records : List (List ℕ)
+  pub turn : Turn r s records size
+  pub run-is : run ≡ afterFrom r records
+  pub numbers-are : take count numbers ≡ numbersFrom r records
+  pub count-is : count ≡ length records
+
+module _ {r run run′ : Run} {s numbers numbers′ : List ℕ} {count count′ size size′ : ℕ} where
+  -- the same with what stands in the code's variables
+  pub given-same : Given r s run numbers count size → run′ ≡ run → numbers′ ≡ numbers → count′ ≡ count → size′ ≡ size → Given r s run′ numbers′ count′ size′
+  given-same g er en ec es =
+      record {
+        records = g .records;
+        turn = subst⁻¹ (Turn r s (g .records)) es (g .turn);
+        run-is = er ∙ g .run-is;
+        numbers-are = ap₂ (λ (k : ℕ) (t : List ℕ). take k t) ec en ∙ g .numbers-are;
+        count-is = ec ∙ g .count-is;
+      }
+
+-- one record, with its number in the first place
+pub record-given : (r : Run) (s list : List ℕ) {run : Run} {number size : ℕ} → 0 < length s → 0 < length list →
+    let reply = stepOf r (nextRecord r s) in
+    run ≡ reply .run → number ≡ reply .number → size ≡ nextLength r s → Given r s run (set list 0 number) 1 size
+unfolding afterFrom numbersFrom
+record-given r s list {run} {number} {size} p q er en es =
+    record {
+      records = nextRecord r s ∷ [];
+      turn = subst⁻¹ (Turn r s (nextRecord r s ∷ [])) es (turn-record r s p);
+      run-is = er;
+      numbers-are = take-suc-set list 0 number q ∙ ap (λ (k : ℕ). k ∷ []) en;
+      count-is = refl;
+    }
 
 pub reading-start : (log out : List ℕ) (r : Run) → r ≡ fresh → Reading log out out r 0 0 1
 reading-start log out r e =
@@ -37,31 +74,27 @@ module _ {log before after : List ℕ} {r : Run} {from at position : ℕ} (h : R
   pub reading-length : length after ≡ length before
   reading-length = ahead-length (h .lines)
 
-  -- a turn: the next record is given to the run, and its line stored if it is refused
-  pub reading-next : from < length log → {next : List ℕ} {place : ℕ} →
-      let s = drop from log in
-      let reply = stepOf r (nextRecord r s) in
-      Wrote after next at place (refusalLine position (reply .number))
-      → Reading log before next (reply .run) (from + nextLength r s) place (position + 1)
-  reading-next l {next} {place} w =
-      let s = drop from log in
-      let n = nextLength r s in
-      let reply = stepOf r (nextRecord r s) in
-      let left = length-drop from log in
-      let some : 0 < length s = omega arith in
-      record {
-        within = omega (arith, left, next-max r s);
-        counted = omega (arith, h .counted, next-pos r s some);
-        few = few-step r (h .few) (nextRecord r s);
+  -- a turn: the next records are given to the run, and the lines of those that are refused stored
+  pub reading-next : {run : Run} {numbers next : List ℕ} {count size place : ℕ} → Given r (drop from log) run numbers count size
+      → Wrote after next at place (numberLines position (take count numbers))
+      → Reading log before next run (from + size) place (position + count)
+  reading-next {run} {numbers} {next} {count} {size} {place} g w =
+      let t = g .turn in
+      let l = g .records in
+      subst⁻¹ (λ (z : Run). Reading log before next z (from + size) place (position + count)) (g .run-is)
+      (record {
+        within = omega (arith, length-drop from log, h .within, t .within);
+        counted = omega (arith, h .counted, g .count-is, t .count-max);
+        few = few-after r (h .few) l;
         lines =
             ahead-next
             (subst (λ (t : List ℕ). Ahead before after at (linesFrom 1 fresh log) t)
-            (lines-next position r s some
-            ∙ ap (λ (d : List ℕ). refusalLine position (reply .number) ++ linesFrom (position + 1) (reply .run) d) (drop-drop n from log))
+            (turn-lines t position
+            ∙ ap₂ (λ (p : ℕ) (d : List ℕ). numberLines position (numbersFrom r l) ++ linesFrom (position + p) (afterFrom r l) d) (sym (g .count-is)) (drop-drop size from log))
             (h .lines))
-            w;
-        same-run = ap (runFrom (reply .run)) (sym (drop-drop n from log)) ∙ sym (run-next r s some) ∙ h .same-run;
-      }
+            (subst (λ (t : List ℕ). Wrote after next at place (numberLines position t)) (g .numbers-are) w);
+        same-run = ap (runFrom (afterFrom r l)) (sym (drop-drop size from log)) ∙ sym (turn-run t) ∙ h .same-run;
+      })
 
   -- the end: every line is stored, and the run is the log's
   pub reading-lines : length log ≤ from → Wrote before after 0 at (refusalLines 1 fresh (recordsOf log))

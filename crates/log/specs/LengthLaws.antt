@@ -13,14 +13,14 @@ use Rattle.lists.specs.TestLaws.{pick-case}
 use Rattle.records.specs.Bytes.{byteAt}
 use Rattle.records.specs.Tags.{Tag, SU, SX, DE, GO, VE, CH, CS, RE, unknown, tagOf, setupLength, dealingLength, complaintLength, challengesLength, shiftedLength, responseLength, goLength}
 use Rattle.text.specs.Lines.{fields, line}
-use Rattle.text.specs.LineLaws.{field-few}
+use Rattle.text.specs.LineLaws.{field-few, line-max}
 use Rattle.run.specs.declared.Run.{Run}
 use Rattle.run.specs.declared.Reply.{Reply}
 use Rattle.run.specs.Runs.{fresh}
 use Rattle.run.specs.Steps.{stepOf}
 use Rattle.run.specs.NumberLaws.{number-max}
 use Rattle.log.specs.Cutting.{ownLength, byBatch, lengthAt, lengthOf, whole}
-use Rattle.log.specs.Report.{refuseWord, longest, refusalLine}
+use Rattle.log.specs.Report.{refuseWord, longest, mostRefusal, refusalLine}
 use Rattle.log.specs.Turns.{nextLength, nextRecord, nextRest, linesFrom}
 use Rattle.log.specs.TurnLaws.{whole-pos, next-pos, next-max, lines-none, lines-next}
 
@@ -74,6 +74,13 @@ unfolding refusalLine line fields
 line-most position number p l =
     pick-case (λ (l : List ℕ). length l ≤ 16) (eqb number 0) [] (line refuseWord (position ∷ number ∷ [])) (λ e. omega arith)
     (λ e. simp length-append (omega (arith, field-few 4 position (omega arith), field-few 1 number (omega arith))))
+
+-- whatever its numbers, it has room
+pub line-room : (position number : ℕ) → length (refusalLine position number) ≤ mostRefusal
+unfolding refusalLine
+line-room position number =
+    pick-case (λ (l : List ℕ). length l ≤ mostRefusal) (eqb number 0) [] (line refuseWord (position ∷ number ∷ [])) (λ e. omega arith)
+    (λ e. omega (arith, line-max refuseWord (position ∷ number ∷ [])))
 
 pub empty-or : (s : List ℕ) → (s ≡ []) ⊎ (0 < length s)
 empty-or [] = inl refl

@@ -2,6 +2,8 @@ pub mod Cutting
 pub mod Report
 pub mod Printed
 pub mod Turns
+pub mod Stretches
+pub mod StretchLaws
 pub mod TurnLaws
 pub mod Endings
 pub mod LengthLaws

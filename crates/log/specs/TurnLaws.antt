@@ -6,12 +6,13 @@ use mathlib.Core.List.{List, [], _∷_, _++_}
 use Prim.Native.Nat.{ℕ, zero, suc, _+_, _-_, _≤_, _<_}
 use native.Mathlib.Omega.{arith}
 use lib.ListN.{length, take, drop, length-drop}
-use lib.Seq.{take-all, take-length, drop-length}
+use lib.Seq.{take-length, drop-length, length-take-le, getD-take}
 use lib.Dec.{eqb, leb}
-use borrow.Author.Tests.{leb-true, eq-eqb, ne-eqb}
+use borrow.Author.Tests.{leb-true, eq-eqb, ne-eqb, le-ltb}
 use Rattle.lists.specs.Tests.{pick}
 use Rattle.lists.specs.TestLaws.{pick-case, and-left, and-right, pick-same}
-use Rattle.records.specs.Tags.{Tag, SU, SX, DE, GO, VE, CH, CS, RE, unknown}
+use Rattle.records.specs.Bytes.{byteAt}
+use Rattle.records.specs.Tags.{Tag, SU, SX, DE, GO, VE, CH, CS, RE, unknown, tagOf}
 use Rattle.run.specs.declared.Run.{Run}
 use Rattle.run.specs.Runs.{fresh}
 use Rattle.run.specs.Steps.{stepOf, afterFrom, after}
@@ -50,10 +51,6 @@ pub next-max : (r : Run) (s : List ℕ) → nextLength r s ≤ length s
 unfolding nextLength
 next-max r s = pick-case (λ (n : ℕ). n ≤ length s) (whole r s) (lengthOf r s) (length s) (λ e. whole-max r s e) (λ e. omega arith)
 
--- what is left of a log, as the code lends it
-pub left-is : (log : List ℕ) (from : ℕ) → take (length log - from) (drop from log) ≡ drop from log
-left-is log from = take-all (length log - from) (drop from log) (omega (arith, length-drop from log))
-
 -- the next record has from 1 byte to all that is left
 pub next-within : (log : List ℕ) (from : ℕ) (r : Run) → from < length log
     → (0 < nextLength r (drop from log)) × (from + nextLength r (drop from log) ≤ length log)
@@ -61,6 +58,18 @@ next-within log from r l =
     let s = drop from log in
     let left = length-drop from log in
     (next-pos r s (omega arith), omega (arith, left, next-max r s))
+
+-- a record alone has the tag that it has in the log
+pub tag-alone : (s : List ℕ) (k : ℕ) → 2 ≤ k → k ≤ length s → tagOf (take k s) ≡ tagOf s
+unfolding tagOf byteAt
+tag-alone s k p l =
+    rw (
+      length-take-le k s l,
+      getD-take k s 0 0 (omega arith),
+      getD-take k s 1 0 (omega arith),
+      le-ltb k 2 p,
+      le-ltb (length s) 2 (omega arith),
+    )
 
 -- ---- records, turn by turn
 

@@ -1,9 +1,10 @@
 // Logs: cut into records and given to a run, and the printed page.
 ghost use mathlib.Core.Path.{_≡_};
 ghost use mathlib.Core.List.{[], _∷_, _++_};
-ghost use Prim.Native.Nat.{_+_, _≤_};
+ghost use Prim.Native.Nat.{_+_, _*_, _≤_, min};
 ghost use lib.ListN.{length};
 ghost use lib.Seq.{sets};
+ghost use Rattle.records.specs.Tags.{responseLength};
 ghost use Rattle.text.specs.Lines.{line};
 ghost use Rattle.text.specs.Texts.{Wrote};
 ghost use Rattle.run.specs.Runs.{fresh};
@@ -11,6 +12,7 @@ ghost use Rattle.closing.specs.Closing.{closing};
 ghost use Rattle.log.specs.Cutting.{ownLength, byBatch, lengthOf, recordsOf, runOf};
 ghost use Rattle.log.specs.Report.{refuseWord, longest, mostRefusal, refusalLines};
 ghost use Rattle.log.specs.Turns.{nextLength};
+ghost use Rattle.log.specs.Stretches.{mostRows, mostPosition, stretchOf, rowsAhead, numberLines};
 ghost use Rattle.log.specs.Printed.{mostReport, printed};
 use run::Run;
 
@@ -89,33 +91,102 @@ fn put_refusal(out: &mut [u8], at: usize, position: u32, number: u8) -> usize
     text::put_line(out, at, b"refuse", &numbers)
 }
 
-// The page of a log that is not too long, into a buffer with room for every page.
+// The lines of records with these numbers, those that are refused, from a position on.
+fn put_refusals(out: &mut [u8], at: usize, position: u32, numbers: &[u8]) -> usize
+    requires { ⌜ (position + length (now numbers) ≤ mostPosition) × (at + mostRefusal * length (now numbers) ≤ length (now out)) ⌝ }
+    ensures { λ r. ⌜ Wrote (now (out .entry)) (now (out .exit)) at r (numberLines position (now (numbers .entry))) ⌝ }
+{
+    let mut next = at;
+    let count = numbers.len();
+    for x in 0..count {
+        let number = numbers[x];
+        if number != 0 {
+            next = put_refusal(out, next, position + x as u32, number);
+        }
+    }
+    next
+}
+
+// The most rows that are given to a run in one call.
+const ROWS: usize = 256;
+
+// How many rows of a length, each an RE, what is left begins with, at most ROWS. The last may be cut.
+fn stretch(rest: &[u8], length: usize) -> usize
+    requires { ⌜ length ≤ longest ⌝ }
+    ensures { λ r. ⌜ r ≡ stretchOf mostRows length (now (rest .entry)) ⌝ }
+{
+    let mut from: usize = 0;
+    for count in 0..ROWS {
+        if rest.len() <= from {
+            return count;
+        }
+        let row = &rest[from..];
+        if records::tag(row) != 5 {
+            return count;
+        }
+        from += length;
+    }
+    ROWS
+}
+
+// How many rows what is left begins with that a run at stage 4 may be given in one call; none at another stage.
+fn rows_ahead(run: Run, rest: &[u8]) -> usize
+    ensures { λ r. ⌜ r ≡ rowsAhead run (now (rest .entry)) ⌝ }
+{
+    if run.stage != 4 {
+        return 0;
+    }
+    if run.stage_of() != 4 {
+        return 0;
+    }
+    let length = records::response_length(run.b);
+    stretch(rest, length)
+}
+
+// The bytes of so many rows, or all that are left.
+fn rows_length(b: u8, rows: usize, left: usize) -> usize
+    requires { ⌜ rows ≤ mostRows ⌝ }
+    ensures { λ r. ⌜ r ≡ min (rows * responseLength b) left ⌝ }
+{
+    let whole = rows * records::response_length(b);
+    if left < whole { left } else { whole }
+}
+
+// The page of a log that is not too long, into a buffer with room for every page. Rows that a run may be given in one call are.
 fn put_page(log: &[u8], out: &mut [u8]) -> usize
     requires { ⌜ (length (now log) ≤ longest) × (mostReport ≤ length (now out)) ⌝ }
     ensures { λ r. ⌜ Wrote (now (out .entry)) (now (out .exit)) 0 r (refusalLines 1 fresh (recordsOf (now (log .entry))) ++ closing (runOf (now (log .entry)))) ⌝ }
 {
     let mut run = Run::fresh();
+    let mut numbers = [0u8; ROWS];
     let mut from: usize = 0;
     let mut at: usize = 0;
     let mut position: u32 = 1;
     while from < log.len() {
         let rest = &log[from..];
-        let length = next_length(run, rest);
-        let record = &rest[..length];
-        // by tag and stage first, which does not copy the run
-        let mut number = run.untaken(record);
-        if number == 0 {
-            let reply = run.step(record);
-            number = reply.number;
+        let mut count = rows_ahead(run, rest);
+        let mut size = rows_length(run.b, count, rest.len());
+        if 0 < count {
+            let reply = bundle::take_rows(run, &rest[..size], &mut numbers[..count]);
+            run = reply.run;
+        } else {
+            size = next_length(run, rest);
+            let record = &rest[..size];
+            // by tag and stage first, which does not copy the run
+            let mut number = run.untaken(record);
             if number == 0 {
-                run = reply.run;
+                let reply = run.step(record);
+                number = reply.number;
+                if number == 0 {
+                    run = reply.run;
+                }
             }
+            numbers[0] = number;
+            count = 1;
         }
-        if number != 0 {
-            at = put_refusal(out, at, position, number);
-        }
-        from += length;
-        position += 1;
+        at = put_refusals(out, at, position, &numbers[..count]);
+        from += size;
+        position += count as u32;
     }
     closing::put_closing(out, at, run)
 }

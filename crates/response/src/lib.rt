@@ -51,7 +51,7 @@ impl Responses {
         challenges: Challenges,
         bytes: &[u8],
     ) -> u8
-        requires { ⌜ inBounds (setup .n) (setup .t) (setup .a) ≡ true ⌝ }
+        requires { ⌜ (inBounds (setup .n) (setup .t) (setup .a) ≡ true) × (b ≤ setup .n) ⌝ }
         ensures { λ r. ⌜ r ≡ responseNumber b setup dealings complaints challenges self (now (bytes .entry)) ⌝ }
     {
         let number = refusals::response_refusal(setup.n, b, bytes);

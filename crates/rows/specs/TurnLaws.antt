@@ -39,6 +39,13 @@ module _ (w : Row) (values : List Element) where
       ∙ fold-next product identity k power
       ∙ ap₂ (λ (n : ℕ) (v : Element). product (fold product identity n power) (raise v (nth w k))) same (getD-default values k identity d h)
 
+  -- all of them
+  pub product-all : productOf (first (size w) w) values ≡ productOf w values
+  unfolding productOf nth size first
+  product-all =
+      let same : min (min (w .count) mostScalars) mostScalars ≡ min (w .count) mostScalars = omega arith in
+      ap (λ (n : ℕ). fold product identity n power) same
+
 -- the weights of m points are m
 pub first-weights : (m : ℕ) (pt : ℕ → Scalar) (x : Scalar) → m ≤ mostScalars → first m (weightsOf (listed m pt) x) ≡ weightsOf (listed m pt) x
 unfolding first

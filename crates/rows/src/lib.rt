@@ -2,6 +2,7 @@
 ghost use mathlib.Core.Path.{_≡_};
 ghost use Rattle.rows.specs.Definitions.{size, nth, weightsOf, scale, basisOf, weightsBy, sumOf, productOf};
 ghost use Rattle.rows.specs.BasisLaws.{partialProducts, reversed};
+use chains::Chain;
 use field::Element;
 use field::Scalar;
 
@@ -131,18 +132,18 @@ impl Row {
         sum
     }
 
-    // The product of value^weight, of these weights.
+    // The product of value^weight, of these weights, with one chain of squarings for all values.
     pub fn product(self, values: [Element; ROW]) -> Element
         ensures { λ r. ⌜ r ≡ productOf self values ⌝ }
     {
         let m = self.len();
-        let mut product = Element::ONE;
+        let mut chain = Chain::none();
         for i in 0..m {
             let w = self.at[i as usize];
             let v = values[i as usize];
-            product = product.mul(v.pow(w));
+            chain = chain.with(v, w);
         }
-        product
+        chain.value()
     }
 }
 

@@ -277,6 +277,24 @@ impl Run {
         next
     }
 
+    // With one more response row, and done with the last that is needed.
+    pub fn with_response(self, bytes: &[u8]) -> Run
+        requires { ⌜ wellFormed self ≡ true ⌝ }
+        ensures { λ r. ⌜ r ≡ afterResponse self (now (bytes .entry)) ⌝ }
+    {
+        let setup = self.setup;
+        let old = self.responses;
+        let responses = old.with(self.b, bytes);
+        let mut next = self;
+        next.stage = 4;
+        next.responses = responses;
+        let rows = old.count as u16 + 1;
+        if rows == parameters::quorum(setup.t, setup.a) {
+            return next.finish();
+        }
+        next
+    }
+
     fn take_response(self, bytes: &[u8]) -> Reply
         requires { ⌜ wellFormed self ≡ true ⌝ }
         ensures { λ r. ⌜ r ≡ answered self (responseNumber (self .b) (self .setup) (self .dealings) (self .complaints) (self .challenges) (self .responses) (now (bytes .entry))) (afterResponse self (now (bytes .entry))) ⌝ }
@@ -290,21 +308,7 @@ impl Run {
         if number != 0 {
             return self.answer(number);
         }
-        let responses = old.with(self.b, bytes);
-        let mut next = self;
-        next.stage = 4;
-        next.responses = responses;
-        let rows = old.count as u16 + 1;
-        if rows == parameters::quorum(setup.t, setup.a) {
-            return Reply {
-                run: next.finish(),
-                number: 0,
-            };
-        }
-        Reply {
-            run: next,
-            number: 0,
-        }
+        self.with_response(bytes).answer(0)
     }
 
     // A refusal that needs no response row to be tested, so that the run is not copied: every number but 15. Else 0.

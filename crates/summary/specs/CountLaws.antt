@@ -8,7 +8,7 @@ use native.Mathlib.Omega.{arith}
 use lib.ListN.{length, take, drop, getD, length-drop}
 use lib.Seq.{length-take-le, getD-take}
 use lib.Dec.{eqb, leb}
-use borrow.Author.Tests.{le-leb, le-ltb, leb-true}
+use borrow.Author.Tests.{le-leb, leb-true}
 use Rattle.lists.specs.Tests.{pick}
 use Rattle.lists.specs.TestLaws.{pick-case}
 use Rattle.records.specs.Bytes.{byteAt}
@@ -19,7 +19,7 @@ use Rattle.run.specs.Runs.{fresh}
 use Rattle.run.specs.Steps.{stepOf, refused, afterFrom}
 use Rattle.log.specs.Cutting.{ownLength, lengthAt, lengthOf}
 use Rattle.log.specs.Turns.{nextLength, nextRecord, nextRest, recordsFrom, Whole, takes, BeforeSetup, BeforeGo, Cut}
-use Rattle.log.specs.TurnLaws.{next-pos, next-max, records-none}
+use Rattle.log.specs.TurnLaws.{next-pos, next-max, tag-alone, records-none}
 use Rattle.log.specs.LengthLaws.{least-at, empty-or}
 use Rattle.log.specs.Endings.{whole-first, unknown-last, before-setup-last, before-go-last, cut-last, reading}
 use Rattle.summary.specs.Consumed.{settled, fixedLength, countedBy, countedLength, countedFrom, consumed, summed}
@@ -61,18 +61,7 @@ pub fixed-there : (r : Run) (s : List ℕ) → 0 < lengthOf r s → fixedLength 
 unfolding fixedLength lengthOf
 fixed-there r s p = fixed-at (tagOf s) r s p
 
--- the record alone has the tag and the length that it has in the log
-tag-alone : (s : List ℕ) (k : ℕ) → 2 ≤ k → k ≤ length s → tagOf (take k s) ≡ tagOf s
-unfolding tagOf byteAt
-tag-alone s k p l =
-    rw (
-      length-take-le k s l,
-      getD-take k s 0 0 (omega arith),
-      getD-take k s 1 0 (omega arith),
-      le-ltb k 2 p,
-      le-ltb (length s) 2 (omega arith),
-    )
-
+-- the record alone has the length that it has in the log
 own-alone : (s : List ℕ) (k : ℕ) → k ≤ length s → k ≡ ownLength s → 0 < k → ownLength (take k s) ≡ k
 unfolding ownLength setupLength byteAt
 own-alone s k l e p = go (leb 6 (length s)) refl

@@ -1,2 +1,3 @@
 pub mod Definitions
+pub mod Tests
 pub mod VerificationLaws

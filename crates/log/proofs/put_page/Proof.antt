@@ -1,128 +1,199 @@
--- `put_page` meets its contract. The loop reads the log turn by turn; the measure is what is left of it. Assumes nothing.
-use mathlib.Core.Path.{_≡_, sym, ap, ap₂, _∙_}
+-- `put_page` meets its contract. The loop reads the log turn by turn, a stretch of rows or one record each; the measure is what is left of it.
+-- Assumes nothing.
+use mathlib.Core.Path.{_≡_, refl, sym, ap, ap₂, subst, subst⁻¹, _∙_}
 use mathlib.Core.Logic.{⊎-elim}
-use Prim.Native.Nat.{ℕ, _+_, _-_, _≤_, _<_}
+use mathlib.Core.List.{List, [], _∷_, _++_}
+use Prim.Native.Nat.{ℕ, _+_, _*_, _-_, _≤_, _<_, min}
 use native.Mathlib.Omega.{arith}
 use borrow.Author.Needs.{needs}
-use borrow.Author.Tests.{eq-eqb, ne-eqb}
-use lib.ListN.{length, take, drop, length-drop}
-use lib.Seq.{length-take-le}
+use lib.ListN.{length, take, drop, length-append, length-set, length-drop}
+use lib.Seq.{length-take-le, take-at}
 use Rattle.text.specs.Texts.{Wrote}
-use Rattle.text.specs.TextLaws.{wrote-none, wrote-append}
+use Rattle.text.specs.TextLaws.{wrote-none, wrote-append, wrote-length}
+use Rattle.records.specs.Tags.{responseLength}
 use Rattle.run.specs.declared.Reply.{Reply}
 use Rattle.run.specs.declared.Run.{Run}
-use Rattle.run.specs.Steps.{stepOf, untaken}
+use Rattle.run.specs.Steps.{stepOf, untaken, afterFrom}
 use Rattle.run.specs.RefusalLaws.{refusal-keeps, untaken-refused}
-use Rattle.log.specs.Report.{refusalLine}
+use Rattle.bundle.specs.Bundles.{Outcome, outcome, rowsOf, numbersFrom}
+use Rattle.bundle.specs.BundleLaws.{bundle-given}
+use Rattle.bundle.specs.CutLaws.{left-is}
 use Rattle.log.specs.Turns.{nextLength, nextRecord}
-use Rattle.log.specs.TurnLaws.{next-within, left-is}
-use Rattle.log.proofs.Reading.{Reading, reading-start, reading-place, reading-length, reading-next, reading-lines, reading-run}
+use Rattle.log.specs.TurnLaws.{next-within}
+use Rattle.log.specs.Stretches.{mostRows, stretchOf, rowsAhead}
+use Rattle.log.specs.StretchLaws.{Turn, numbers-length, rowBytes, rows-some, rows-max, rows-are, turn-rows, turn-record}
+use Rattle.log.proofs.Reading.{Reading, Given, given-same, record-given, reading-start, reading-place, reading-length, reading-next, reading-lines, reading-run}
 use Rattle.log.proofs.put_page.Statement.{statement}
 use Rattle.log.proofs.put_page.Tie as tie
 
 abbrev Inv-loop : tie.InvT-loop
-Inv-loop log out₀ run₀ from₀ at₀ position₀ out run from at position = Reading log out₀ out run from at position
+Inv-loop log out₀ run₀ numbers₀ from₀ at₀ position₀ out run numbers from at position = (length numbers ≡ mostRows) × Reading log out₀ out run from at position
 
 abbrev μ-loop : tie.MeasureT-loop
-μ-loop log out₀ run₀ from₀ at₀ position₀ out run from at position = length log - from
+μ-loop log out₀ run₀ numbers₀ from₀ at₀ position₀ out run numbers from at position = length log - from
+
+abbrev log-of : tie.At-loop Inv-loop μ-loop → List ℕ
+log-of l = l .before .before .before .before .args .log .now
+
+-- what is left of the log
+abbrev rest-of : tie.At-loop Inv-loop μ-loop → List ℕ
+rest-of l = drop (l .loop .from) (log-of l)
 
 fresh-requires : tie.Need-fresh-requires Inv-loop μ-loop
 fresh-requires c κs = search needs
 
 loop-holds : tie.Need-loop-holds Inv-loop μ-loop
-loop-holds c = reading-start _ _ _ (c .fresh .ensures)
+loop-holds c = (refl, reading-start _ _ _ (c .fresh .ensures))
 
 sub-rest : tie.Need-sub-rest Inv-loop μ-loop
-sub-rest c = c .before .loop .inv .within
+sub-rest c = c .before .loop .inv .1 .within
 
 part-rest-start : tie.Need-part-rest-start Inv-loop μ-loop
-part-rest-start c = c .before .loop .inv .within
+part-rest-start c = c .before .loop .inv .1 .within
 
 part-rest-end : tie.Need-part-rest-end Inv-loop μ-loop
 part-rest-end c = omega arith
 
+rows-ahead-requires : tie.Need-rows-ahead-requires Inv-loop μ-loop
+rows-ahead-requires c κs = search needs
+
+-- ---- rows that are given in one call
+
+ahead : (c : tie.After-rows-ahead Inv-loop μ-loop) → let l = c .before .before .before in
+    c .rows-ahead .result ≡ rowsAhead (l .loop .run) (rest-of l)
+ahead c =
+    let l = c .before .before .before in
+    c .rows-ahead .ensures ∙ ap (rowsAhead (l .loop .run)) (left-is (log-of l) (l .loop .from))
+
+rows-length-requires : tie.Need-rows-length-requires Inv-loop μ-loop
+rows-length-requires c κs =
+    let l = c .before .before .before in
+    omega (arith, ahead c, rows-max (l .loop .run) (rest-of l))
+
+-- how many bytes they have
+sized : (c : tie.After-rows-length Inv-loop μ-loop) → let l = c .before .before .before .before in
+    c .rows-length .result ≡ min (c .before .rows-ahead .result * responseLength (l .loop .run .b)) (length (rest-of l))
+sized c =
+    let l = c .before .before .before .before in
+    c .rows-length .ensures ∙ ap (λ (n : ℕ). min (c .before .rows-ahead .result * responseLength (l .loop .run .b)) n) (ap length (left-is (log-of l) (l .loop .from)))
+
+-- they are a turn
+rows-given : (t : tie.After-take-rows Inv-loop μ-loop) →
+    let c = t .before .before .before .before in
+    let l = c .before .before .before .before in
+    Given (l .loop .run) (rest-of l) (t .take-rows .result .run) (t .take-rows .last .1 .1 .0 ++ drop (c .before .rows-ahead .result) (l .loop .numbers)) (c .before .rows-ahead .result)
+    (c .rows-length .result)
+rows-given t =
+    let c = t .before .before .before .before in
+    let a = c .before in
+    let l = a .before .before .before in
+    let r = l .loop .run in
+    let s = rest-of l in
+    let k = a .rows-ahead .result in
+    let n = c .rows-length .result in
+    let exit = t .take-rows .last .1 .1 .0 in
+    let lent = take n (take (length (log-of l) - l .loop .from) s) in
+    let some : 0 < rowsAhead r s = omega (arith, ahead a, t .before .before .before .if1 .taken) in
+    let at = rows-some r s some in
+    let count : k ≡ stretchOf mostRows (responseLength (r .b)) s = ahead a ∙ at .1 in
+    let size : n ≡ rowBytes r s mostRows = sized c ∙ ap (λ (i : ℕ). min (i * responseLength (r .b)) (length s)) count in
+    let bytes : lent ≡ take n s = ap (take n) (left-is (log-of l) (l .loop .from)) in
+    let many : length (rowsOf (r .b) (take n s)) ≡ k = ap (λ (i : ℕ). length (rowsOf (r .b) (take i s))) size ∙ rows-are r s mostRows ∙ sym count in
+    let places : length (take k (l .loop .numbers)) ≡ k = length-take-le k (l .loop .numbers) (omega (arith, ahead a, rows-max r s, l .loop .inv .0)) in
+    let all : outcome (t .take-rows .result .run) (t .take-rows .result .number) exit ≡ outcome (afterFrom r (rowsOf (r .b) (take n s))) 0 (numbersFrom r (rowsOf (r .b) (take n s))) =
+    t .take-rows .ensures
+    ∙ bundle-given r lent (take k (l .loop .numbers)) (at .0) (places ∙ sym many ∙ sym (ap (λ (b : List ℕ). length (rowsOf (r .b) b)) bytes))
+    ∙ ap (λ (b : List ℕ). outcome (afterFrom r (rowsOf (r .b) b)) 0 (numbersFrom r (rowsOf (r .b) b))) bytes in
+    let list : exit ≡ numbersFrom r (rowsOf (r .b) (take n s)) = ap (λ (o : Outcome). o .list) all in
+    record {
+      records = rowsOf (r .b) (take n s);
+      turn = subst⁻¹ (λ (i : ℕ). Turn r s (rowsOf (r .b) (take i s)) i) size (turn-rows r s mostRows (at .0) (omega (arith, some, at .1)));
+      run-is = ap (λ (o : Outcome). o .run) all;
+      numbers-are = take-at exit (drop k (l .loop .numbers)) k (ap length list ∙ numbers-length r (rowsOf (r .b) (take n s)) ∙ many) ∙ list;
+      count-is = sym many;
+    }
+
+slice-aggregate-take-rows : tie.Need-slice-aggregate-take-rows Inv-loop μ-loop
+slice-aggregate-take-rows c =
+    let m = c .before .before in
+    let l = m .before .before .before .before in
+    rw (left-is (log-of l) (l .loop .from)) (sym (length-take-le (m .rows-length .result) (rest-of l) (omega (arith, sized m))))
+
+array-borrow-prefix-numbers : tie.Need-array-borrow-prefix-numbers Inv-loop μ-loop
+array-borrow-prefix-numbers c =
+    let a = c .before .before .before in
+    let l = a .before .before .before in
+    omega (arith, ahead a, rows-max (l .loop .run) (rest-of l), l .loop .inv .0)
+
+slice-aggregate-take-rows-2 : tie.Need-slice-aggregate-take-rows-2 Inv-loop μ-loop
+slice-aggregate-take-rows-2 c =
+    let a = c .before .before .before .before in
+    let l = a .before .before .before in
+    sym (length-take-le (a .rows-ahead .result) (l .loop .numbers) (omega (arith, ahead a, rows-max (l .loop .run) (rest-of l), l .loop .inv .0)))
+
+take-rows-requires : tie.Need-take-rows-requires Inv-loop μ-loop
+take-rows-requires c κs = search needs
+
 next-length-requires : tie.Need-next-length-requires Inv-loop μ-loop
 next-length-requires c κs = search needs
 
+-- ---- one record
+
 -- the length that the code found
-measured : (c : tie.After-next-length Inv-loop μ-loop) →
-    let l = c .before .before .before in
-    c .next-length .result ≡ nextLength (l .loop .run) (drop (l .loop .from) (l .before .before .before .before .args .log .now))
+measured : (c : tie.After-next-length Inv-loop μ-loop) → let l = c .before .before .before .before .before .before in
+    c .next-length .result ≡ nextLength (l .loop .run) (rest-of l)
 measured c =
-    let l = c .before .before .before in
-    c .next-length .ensures ∙ ap (nextLength (l .loop .run)) (left-is (l .before .before .before .before .args .log .now) (l .loop .from))
+    let l = c .before .before .before .before .before .before in
+    c .next-length .ensures ∙ ap (nextLength (l .loop .run)) (left-is (log-of l) (l .loop .from))
 
 -- it is from 1 to what is left
-passed : (c : tie.After-next-length Inv-loop μ-loop) →
-    let l = c .before .before .before in
-    (0 < c .next-length .result) × (l .loop .from + c .next-length .result ≤ length (l .before .before .before .before .args .log .now))
+passed : (c : tie.After-next-length Inv-loop μ-loop) → let l = c .before .before .before .before .before .before in
+    (0 < c .next-length .result) × (l .loop .from + c .next-length .result ≤ length (log-of l))
 passed c =
-    let i = c .before .before in
+    let i = c .before .before .before .before .before in
     let l = i .before in
-    rw (measured c) (next-within (l .before .before .before .before .args .log .now) (l .loop .from) (l .loop .run) (i .loop-test .taken))
-
-slice-aggregate-record : tie.Need-slice-aggregate-record Inv-loop μ-loop
-slice-aggregate-record c =
-    let n = c .before in
-    let l = n .before .before .before in
-    let log = l .before .before .before .before .args .log .now in
-    rw (left-is log (l .loop .from)) (sym (length-take-le (n .next-length .result) (drop (l .loop .from) log) (omega (arith, passed n .1, length-drop (l .loop .from) log))))
-
-untaken-requires : tie.Need-untaken-requires Inv-loop μ-loop
-untaken-requires c κs = search needs
-
-step-requires : tie.Need-step-requires Inv-loop μ-loop
-step-requires c κs = search needs
-
--- ---- what a turn makes of the record
+    rw (measured c) (next-within (log-of l) (l .loop .from) (l .loop .run) (i .loop-test .taken))
 
 -- the record as the code lends it
-record-is : (c : tie.After-next-length Inv-loop μ-loop) →
-    let l = c .before .before .before in
-    let log = l .before .before .before .before .args .log .now in
-    take (c .next-length .result) (take (length log - l .loop .from) (drop (l .loop .from) log)) ≡ nextRecord (l .loop .run) (drop (l .loop .from) log)
+record-is : (c : tie.After-next-length Inv-loop μ-loop) → let l = c .before .before .before .before .before .before in
+    take (c .next-length .result) (take (length (log-of l) - l .loop .from) (rest-of l)) ≡ nextRecord (l .loop .run) (rest-of l)
 record-is c =
-    let l = c .before .before .before in
-    ap₂ take (measured c) (left-is (l .before .before .before .before .args .log .now) (l .loop .from))
+    let l = c .before .before .before .before .before .before in
+    ap₂ (λ (n : ℕ) (t : List ℕ). take n t) (measured c) (left-is (log-of l) (l .loop .from))
 
-asked : (c : tie.After-untaken Inv-loop μ-loop) →
-    let l = c .before .before .before .before .before in
-    let s = drop (l .loop .from) (l .before .before .before .before .args .log .now) in
-    c .untaken .result ≡ untaken (l .loop .run) (nextRecord (l .loop .run) s)
+asked : (c : tie.After-untaken Inv-loop μ-loop) → let l = c .before .before .before .before .before .before .before .before in
+    c .untaken .result ≡ untaken (l .loop .run) (nextRecord (l .loop .run) (rest-of l))
 asked c =
     let n = c .before .before in
-    c .untaken .ensures ∙ ap (untaken (n .before .before .before .loop .run)) (record-is n)
+    c .untaken .ensures ∙ ap (untaken (n .before .before .before .before .before .before .loop .run)) (record-is n)
 
-replied : (c : tie.After-step Inv-loop μ-loop) →
-    let l = c .before .before .before .before .before .before .before in
-    let s = drop (l .loop .from) (l .before .before .before .before .args .log .now) in
-    c .step .result ≡ stepOf (l .loop .run) (nextRecord (l .loop .run) s)
+replied : (c : tie.After-step Inv-loop μ-loop) → let l = c .before .before .before .before .before .before .before .before .before .before in
+    c .step .result ≡ stepOf (l .loop .run) (nextRecord (l .loop .run) (rest-of l))
 replied c =
     let n = c .before .before .before .before in
-    c .step .ensures ∙ ap (stepOf (n .before .before .before .loop .run)) (record-is n)
+    c .step .ensures ∙ ap (stepOf (n .before .before .before .before .before .before .loop .run)) (record-is n)
 
 -- where the three ways meet, number and run are those of the step
-given : (c : tie.Joined1 Inv-loop μ-loop) →
-    let l = c .before .before .before .before .before .before in
-    let s = drop (l .loop .from) (l .before .before .before .before .args .log .now) in
-    let reply = stepOf (l .loop .run) (nextRecord (l .loop .run) s) in
-    (c .if1 .number ≡ reply .number) × (c .if1 .run ≡ reply .run)
-given c =
-    let l = c .before .before .before .before .before .before in
+answered : (c : tie.Joined2 Inv-loop μ-loop) →
+    let l = c .before .before .before .before .before .before .before .before .before in
+    let reply = stepOf (l .loop .run) (nextRecord (l .loop .run) (rest-of l)) in
+    (c .if2 .number ≡ reply .number) × (c .if2 .run ≡ reply .run)
+answered c =
+    let l = c .before .before .before .before .before .before .before .before .before in
     let r = l .loop .run in
-    let s = nextRecord r (drop (l .loop .from) (l .before .before .before .before .args .log .now)) in
+    let s = nextRecord r (rest-of l) in
     ⊎-elim
     (λ w.
-    let reply = replied (record { before = record { before = c .before; if1 = w .0 }; step = w .1 }) in
+    let reply = replied (record { before = record { before = c .before; if2 = w .0 }; step = w .1 }) in
     (w .5 ∙ ap number reply, w .4 ∙ ap run reply))
     (⊎-elim
     (λ w.
-    let reply = replied (record { before = record { before = c .before; if1 = w .0 }; step = w .1 }) in
+    let reply = replied (record { before = record { before = c .before; if2 = w .0 }; step = w .1 }) in
     (w .4 ∙ ap number reply, w .3 ∙ sym (refusal-keeps r s (λ e. w .2 .left (ap number reply ∙ e)))))
     (λ w.
     let refusal = untaken-refused r s (λ e. w .0 .left (asked (c .before) ∙ e)) in
     (w .2 ∙ asked (c .before) ∙ sym (ap number refusal), w .1 ∙ sym (ap run refusal))))
-    (c .if1 .came)
+    (c .if2 .came)
   where
     number : Reply → ℕ
     number z = z .number
@@ -130,56 +201,123 @@ given c =
     run : Reply → Run
     run z = z .run
 
--- the line is stored, if there is one
-stored : (c : tie.Joined3 Inv-loop μ-loop) →
-    let l = c .before .before .before .before .before .before .before in
-    Wrote (l .loop .out) (c .if3 .out) (l .loop .at) (c .if3 .at) (refusalLine (l .loop .position) (c .before .if1 .number))
-unfolding refusalLine
-stored c =
-    ⊎-elim (λ w. rw (w .5, w .6, ne-eqb _ 0 (w .0 .taken)) (w .2 .ensures)) (λ w. rw (w .1, w .2, eq-eqb _ 0 (w .0 .left)) (wrote-none _ _)) (c .if3 .came)
+-- ---- where both meet, a turn is given
 
-put-refusal-requires : tie.Need-put-refusal-requires Inv-loop μ-loop
-put-refusal-requires c κs =
-    let l = c .before .before .before .before .before .before .before .before in
+-- of no more records than the list has places
+fits : (c : tie.Joined1 Inv-loop μ-loop) → c .if1 .count ≤ mostRows
+fits c =
+    let a = c .before .before in
+    let l = a .before .before .before in
+    ⊎-elim (λ w. omega (arith, w .8, ahead a, rows-max (l .loop .run) (rest-of l))) (λ w. omega (arith, w .7)) (c .if1 .came)
+
+given : (c : tie.Joined1 Inv-loop μ-loop) → let l = c .before .before .before .before .before in
+    (length (c .if1 .numbers) ≡ mostRows) × Given (l .loop .run) (rest-of l) (c .if1 .run) (c .if1 .numbers) (c .if1 .count) (c .if1 .size)
+given c =
+    let l = c .before .before .before .before .before in
+    let r = l .loop .run in
+    let s = rest-of l in
+    ⊎-elim
+    (λ w.
+    let t : tie.After-take-rows Inv-loop μ-loop = record { before = record { before = record { before = record { before = c .before; if1 = w .0 }; take-rows-arg = w .1 }; numbers = w .2 }; take-rows = w .3 } in
+    let k = c .before .before .rows-ahead .result in
+    let few : k ≤ length (l .loop .numbers) = omega (arith, ahead (c .before .before), rows-max r s, l .loop .inv .0) in (
+      ap length (w .7) ∙ length-append (w .3 .last .1 .1 .0) (drop k (l .loop .numbers))
+          ∙ omega (arith, w .3 .kept .1 .1 .0, length-take-le k (l .loop .numbers) few, length-drop k (l .loop .numbers), few, l .loop .inv .0),
+      given-same (rows-given t) (w .6) (w .7) (w .8) (w .9),
+    ))
+    (λ w.
+    let j : tie.Joined2 Inv-loop μ-loop = record { before = record { before = record { before = record { before = record { before = c .before; if1 = w .0 }; next-length = w .1 }; «record» = w .2 }; untaken = w .3 }; if2 = w .4 } in
+    let reply = answered j in (
+      ap length (w .6) ∙ length-set (l .loop .numbers) 0 (w .4 .number) ∙ l .loop .inv .0,
+      given-same
+          (record-given r s (l .loop .numbers) (omega (arith, c .before .before .before .before .loop-test .taken, length-drop (l .loop .from) (log-of l))) (omega (arith, l .loop .inv .0)) (reply .1) (reply .0) (measured (j .before .before .before)))
+          (w .5)
+          (w .6)
+          (w .7)
+          (w .8),
+    ))
+    (c .if1 .came)
+
+slice-aggregate-record : tie.Need-slice-aggregate-record Inv-loop μ-loop
+slice-aggregate-record c =
+    let n = c .before in
+    let l = n .before .before .before .before .before .before in
+    rw (left-is (log-of l) (l .loop .from)) (sym (length-take-le (n .next-length .result) (rest-of l) (omega (arith, passed n .1, length-drop (l .loop .from) (log-of l)))))
+
+untaken-requires : tie.Need-untaken-requires Inv-loop μ-loop
+untaken-requires c κs = search needs
+
+step-requires : tie.Need-step-requires Inv-loop μ-loop
+step-requires c κs = search needs
+
+array-write-numbers : tie.Need-array-write-numbers Inv-loop μ-loop
+array-write-numbers c = search needs
+
+array-share-prefix-numbers : tie.Need-array-share-prefix-numbers Inv-loop μ-loop
+array-share-prefix-numbers c =
+    let g = given (c .before) in
+    omega (arith, g .0, fits (c .before))
+
+slice-aggregate-put-refusals : tie.Need-slice-aggregate-put-refusals Inv-loop μ-loop
+slice-aggregate-put-refusals c =
+    let j = c .before .before in
+    sym (length-take-le (j .if1 .count) (j .if1 .numbers) (omega (arith, given j .0, fits j)))
+
+put-refusals-requires : tie.Need-put-refusals-requires Inv-loop μ-loop
+put-refusals-requires c κs =
+    let j = c .before .before in
+    let l = j .before .before .before .before .before in
     let start = l .before .before .before .before in
-    omega (arith, reading-place (l .loop .inv) (start .pre .0), reading-length (l .loop .inv), start .pre)
+    let many = length-take-le (j .if1 .count) (j .if1 .numbers) (omega (arith, given j .0, fits j)) in (
+      omega (arith, many, fits j, l .loop .inv .1 .counted, l .loop .inv .1 .within, start .pre .0),
+      omega (arith, many, fits j, reading-place (l .loop .inv .1) (start .pre .0), reading-length (l .loop .inv .1), start .pre .1),
+    )
 
 add-from : tie.Need-add-from Inv-loop μ-loop
 add-from c =
-    let n = c .before .before .before .before in
-    omega (arith, passed n .1, n .before .before .before .before .before .before .before .pre .0)
+    let j = c .before .before .before .before .before .before in
+    let l = j .before .before .before .before .before in
+    omega (arith, given j .1 .turn .within, length-drop (l .loop .from) (log-of l), l .loop .inv .1 .within, l .before .before .before .before .pre .0)
+
+cast-position : tie.Need-cast-position Inv-loop μ-loop
+cast-position c = omega (arith, fits (c .before .before .before .before .before .before .before))
 
 add-position : tie.Need-add-position Inv-loop μ-loop
 add-position c =
-    let l = c .before .before .before .before .before .before .before in
-    omega (arith, l .loop .inv .counted, l .loop .inv .within, l .before .before .before .before .pre .0)
+    let j = c .before .before .before .before .before .before .before in
+    let l = j .before .before .before .before .before in
+    omega (arith, fits j, l .loop .inv .1 .counted, l .loop .inv .1 .within, l .before .before .before .before .pre .0)
 
 loop-less : tie.Need-loop-less Inv-loop μ-loop
-loop-less c = omega (arith, passed (c .before .before .before .before))
+loop-less c =
+    let j = c .before .before .before .before .before .before .before in
+    let l = j .before .before .before .before .before in
+    let t = given j .1 .turn in
+    omega (arith, t .within, t .some, length-drop (l .loop .from) (log-of l), l .loop .inv .1 .within)
 
 loop-again : tie.Need-loop-again Inv-loop μ-loop
 loop-again c =
-    let n = c .before .before .before .before in
-    let i = n .before .before in
-    let reply = given (c .before) in
-    rw (reply .1, measured n) (reading-next (i .before .loop .inv) (i .loop-test .taken) (rw (reply .0) at (stored c)))
+    let p = c .before .before .before .before in
+    let j = p .before .before .before in
+    let l = j .before .before .before .before .before in
+    (given j .0, reading-next (l .loop .inv .1) (given j .1) (p .put-refusals .ensures))
 
 put-closing-requires : tie.Need-put-closing-requires Inv-loop μ-loop
 put-closing-requires c κs =
     let l = c .before .before in
     let start = l .before .before .before .before in
-    (l .loop .inv .few, omega (arith, reading-place (l .loop .inv) (start .pre .0), reading-length (l .loop .inv), start .pre))
+    (l .loop .inv .1 .few, omega (arith, reading-place (l .loop .inv .1) (start .pre .0), reading-length (l .loop .inv .1), start .pre))
 
 same-length : tie.Need-same-length Inv-loop μ-loop
 same-length c =
     let p = c .before .before in
-    p .put-closing .kept .0 ∙ reading-length (p .before .before .before .loop .inv)
+    p .put-closing .kept .0 ∙ reading-length (p .before .before .before .loop .inv .1)
 
 returns : tie.Need-returns Inv-loop μ-loop
 returns c =
     let p = c .before .before in
     let e = p .before .before in
-    rw (← reading-run (e .before .loop .inv) (e .loop-test .left)) (wrote-append (reading-lines (e .before .loop .inv) (e .loop-test .left)) (p .put-closing .ensures))
+    rw (← reading-run (e .before .loop .inv .1) (e .loop-test .left)) (wrote-append (reading-lines (e .before .loop .inv .1) (e .loop-test .left)) (p .put-closing .ensures))
 
 pub put-page-spec : {M : Type 1} → statement M
 put-page-spec =
@@ -192,12 +330,22 @@ put-page-spec =
     sub-rest
     part-rest-start
     part-rest-end
+    rows-ahead-requires
+    rows-length-requires
+    slice-aggregate-take-rows
+    array-borrow-prefix-numbers
+    slice-aggregate-take-rows-2
+    take-rows-requires
     next-length-requires
     slice-aggregate-record
     untaken-requires
     step-requires
-    put-refusal-requires
+    array-write-numbers
+    array-share-prefix-numbers
+    slice-aggregate-put-refusals
+    put-refusals-requires
     add-from
+    cast-position
     add-position
     loop-less
     loop-again

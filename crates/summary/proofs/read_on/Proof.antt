@@ -11,7 +11,8 @@ use Rattle.run.specs.Steps.{stepOf, untaken}
 use Rattle.run.specs.RefusalLaws.{untaken-refused}
 use Rattle.log.specs.Cutting.{lengthOf}
 use Rattle.log.specs.Turns.{nextLength, nextRecord}
-use Rattle.log.specs.TurnLaws.{next-max, next-within, left-is}
+use Rattle.bundle.specs.CutLaws.{left-is}
+use Rattle.log.specs.TurnLaws.{next-max, next-within}
 use Rattle.summary.specs.Consumed.{settled, countedBy, countedLength}
 use Rattle.summary.specs.CountLaws.{counted-max}
 use Rattle.summary.proofs.Reading.{Reading, reading-start, reading-next, reading-settled, reading-last}

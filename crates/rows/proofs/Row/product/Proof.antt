@@ -1,29 +1,36 @@
--- `Row::product` meets its contract. The loop keeps the product of value^weight over the places passed. Assumes nothing.
+-- `Row::product` meets its contract. The loop keeps a chain that comes to the product of value^weight over the places passed. Assumes nothing.
 use borrow.Author.Needs.{needs}
 use native.Mathlib.Omega.{arith}
-use mathlib.Core.Path.{_≡_, _∙_, ap, ap₂, sym}
+use mathlib.Core.Path.{_≡_, sym, ap, _∙_}
+use mathlib.Core.List.{List}
 use Prim.Native.Nat.{ℕ, _-_, _≤_}
 use lib.ListN.{length, getD}
-use Rattle.algebra.specs.Fold.{fold}
-use Rattle.algebra.specs.FoldLaws.{fold-zero, fold-next}
-use Rattle.lists.specs.StoreLaws.{getD-default}
 use Rattle.field.specs.declared.Element.{Element}
-use Rattle.field.specs.Definitions.{identity, raise, product as multiply}
-use Rattle.rows.specs.Definitions.{size, nth, productOf}
+use Rattle.field.specs.Definitions.{scalar, element, raise, product as multiply}
+use Rattle.chains.specs.Definitions.{chainValue}
+use Rattle.rows.specs.declared.Row.{Row}
+use Rattle.rows.specs.Definitions.{mostScalars, size, productOf}
+use Rattle.rows.specs.RowLaws.{size-max}
+use Rattle.rows.specs.TurnLaws.{first, product-none, product-next, product-all}
 use Rattle.rows.proofs.Row.product.Statement.{statement}
 use Rattle.rows.proofs.Row.product.Tie as tie
 
 abbrev Inv-loop : tie.InvT-loop
-Inv-loop self values m product₀ i₀ product i = (i ≤ m) × (m ≡ size self) × (product ≡ fold multiply identity i (λ k. raise (getD values k identity) (nth self k)))
+Inv-loop self values m chain₀ i₀ chain i = (i ≤ m) × (m ≡ size self) × (chainValue chain ≡ productOf (first i self) values)
 
 abbrev μ-loop : tie.MeasureT-loop
-μ-loop self values m product₀ i₀ product i = m - i
+μ-loop self values m chain₀ i₀ chain i = m - i
 
 len-requires : tie.Need-len-requires Inv-loop μ-loop
 len-requires c κs = search needs
 
+none-requires : tie.Need-none-requires Inv-loop μ-loop
+none-requires c κs = search needs
+
 loop-holds : tie.Need-loop-holds Inv-loop μ-loop
-loop-holds c = (omega arith, c .len .ensures, sym (fold-zero multiply identity _))
+loop-holds c =
+    let a = c .before .before .args in
+    (omega arith, c .before .len .ensures, c .none .ensures ∙ sym (product-none (a .t1) (a .t2)))
 
 cast-w : tie.Need-cast-w Inv-loop μ-loop
 cast-w c = search needs
@@ -45,11 +52,8 @@ array-copy-out-v : tie.Need-array-copy-out-v Inv-loop μ-loop
 unfolding size
 array-copy-out-v c = search needs
 
-pow-requires : tie.Need-pow-requires Inv-loop μ-loop
-pow-requires c κs = search needs
-
-mul-requires : tie.Need-mul-requires Inv-loop μ-loop
-mul-requires c κs = search needs
+with-requires : tie.Need-with-requires Inv-loop μ-loop
+with-requires c κs = search needs
 
 add-i : tie.Need-add-i Inv-loop μ-loop
 add-i c = search needs
@@ -58,25 +62,32 @@ loop-less : tie.Need-loop-less Inv-loop μ-loop
 loop-less c = search needs
 
 loop-again : tie.Need-loop-again Inv-loop μ-loop
-unfolding nth size
 loop-again c =
-    let s = c .before .before .before .before .before .before .before in
-    let a = s .args in
-    let l = c .before .before .before .before .before .loop in
-    let full : length (a .t2) ≡ 64 = s .good .1 .0 .1 .0 .1 in
-    let read = getD-default (a .t2) (l .i) _ identity (omega arith) in (
+    let t = c .before .before .before .before in
+    let s = t .before .before .before in
+    let l = t .loop in
+    let weights : Row = s .args .t1 in
+    let values : List Element = s .args .t2 in
+    let full : length values ≡ mostScalars = s .good .1 .0 .1 .0 .1 in
+    let most : size weights ≤ mostScalars = size-max weights in
+    let power : Element = raise (getD values (l .i) (element 0)) (getD (weights .at) (l .i) (scalar 0)) in (
       omega arith,
       l .inv .1,
-      c .mul .ensures ∙ ap₂ multiply (l .inv .2) (c .before .pow .ensures ∙ ap (λ (v : Element). raise v (nth (a .t1) (l .i))) read) ∙ sym (fold-next multiply identity (l .i) (λ k. raise (getD (a .t2) k identity) (nth (a .t1) k))),
+      c .with .ensures
+          ∙ ap (λ (p : Element). multiply p power) (l .inv .2)
+          ∙ sym (product-next weights values (l .i) (element 0) (omega arith) (omega arith)),
     )
 
+value-requires : tie.Need-value-requires Inv-loop μ-loop
+value-requires c κs = search needs
+
 returns : tie.Need-returns Inv-loop μ-loop
-unfolding productOf
 returns c =
-    let a = c .before .before .before .args in
-    let l = c .before .loop in
+    let t = c .before .before in
+    let l = t .loop in
+    let a = t .before .before .before .args in
     let end : l .i ≡ size (a .t1) = omega arith in
-    l .inv .2 ∙ ap (λ (n : ℕ). fold multiply identity n (λ k. raise (getD (a .t2) k identity) (nth (a .t1) k))) end
+    c .value .ensures ∙ l .inv .2 ∙ ap (λ (k : ℕ). productOf (first k (a .t1)) (a .t2)) end ∙ product-all (a .t1) (a .t2)
 
 pub product-spec : {M : Type 1} → statement M
 product-spec =
@@ -85,6 +96,7 @@ product-spec =
     Inv-loop
     μ-loop
     len-requires
+    none-requires
     loop-holds
     cast-w
     mul-w
@@ -92,9 +104,9 @@ product-spec =
     cast-v
     mul-v
     array-copy-out-v
-    pow-requires
-    mul-requires
+    with-requires
     add-i
     loop-less
     loop-again
+    value-requires
     returns)

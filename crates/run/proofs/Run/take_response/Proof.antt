@@ -1,17 +1,7 @@
 -- `Run::take_response` meets its contract. Assumes nothing.
 use borrow.Author.Needs.{needs}
-use borrow.Author.Tests.{eq-eqb, ne-eqb}
-use native.Mathlib.Omega.{arith}
-use mathlib.Core.Path.{_≡_, ap, sym, _∙_}
-use mathlib.Core.Bool.{Bool, true, false}
-use Prim.Native.Nat.{_+_}
-use lib.Dec.{eqb}
-use Rattle.lists.specs.Tests.{pick}
-use Rattle.parameters.specs.Definitions.{quorum}
+use mathlib.Core.Path.{_∙_}
 use Rattle.parameters.specs.ParameterLaws.{bounds-test}
-use Rattle.response.specs.declared.Responses.{Responses}
-use Rattle.run.specs.Runs.{setResponses}
-use Rattle.run.specs.Steps.{withRow, finished, afterResponse}
 use Rattle.run.specs.RunLaws.{formed-of, formed-batch}
 use Rattle.run.proofs.Numbers.{refused-by, accepted-by}
 use Rattle.run.proofs.Run.take_response.Statement.{statement}
@@ -20,7 +10,8 @@ use Rattle.run.proofs.Run.take_response.Tie as tie
 number-requires : tie.Need-number-requires
 number-requires c κs =
     let start = c .before .before .before .before .before .before in
-    bounds-test (formed-of (start .args .self) (start .pre) .bounds)
+    let formed = formed-of (start .args .self) (start .pre) in
+    (bounds-test (formed .bounds), formed-batch formed)
 
 answer-requires : tie.Need-answer-requires
 answer-requires c κs = search needs
@@ -28,52 +19,17 @@ answer-requires c κs = search needs
 returns : tie.Need-returns
 returns c = c .answer .ensures ∙ refused-by (c .before .before .number .ensures) _ _ (c .before .if1 .taken)
 
-with-requires : tie.Need-with-requires
-with-requires c κs =
-    let start = c .before .before .before .before .before .before .before .before in
-    let formed = formed-of (start .args .self) (start .pre) in
-    omega arith
+with-response-requires : tie.Need-with-response-requires
+with-response-requires c κs = search needs
 
-cast-rows : tie.Need-cast-rows
-cast-rows c = search needs
-
-add-rows : tie.Need-add-rows
-add-rows c = search needs
-
-quorum-requires : tie.Need-quorum-requires
-quorum-requires c κs = search needs
-
-finish-requires : tie.Need-finish-requires
-finish-requires c κs =
-    let start = c .before .before .before .before .before .before .before .before .before .before .before .before in
-    let formed = formed-of (start .args .self) (start .pre) in
-    (bounds-test (formed .bounds), formed-batch formed)
+answer-requires-2 : tie.Need-answer-requires-2
+answer-requires-2 c κs = search needs
 
 returns-2 : tie.Need-returns-2
-unfolding afterResponse withRow
 returns-2 c =
-    let need = c .before .before in
-    let taken = need .before .before in
-    let passed = taken .before in
-    let a = passed .before .before .before .before .before .before .before .before .args in
-    let r = a .self in
-    let done : eqb (r .responses .count + 1) (quorum (r .setup .t) (r .setup .a)) ≡ true = eq-eqb _ _ (c .before .if2 .taken ∙ need .quorum .ensures) in
-    accepted-by (passed .before .number .ensures) _ (passed .if1 .left)
-    (c .finish .ensures ∙ ap (λ (p : Responses). finished (setResponses r 4 p)) (taken .with .ensures)
-    ∙ sym (ap (λ (b : Bool). pick b (finished (withRow r (a .bytes .now))) (withRow r (a .bytes .now))) done))
-
-returns-3 : tie.Need-returns-3
-unfolding afterResponse withRow
-returns-3 c =
-    let need = c .before in
-    let taken = need .before .before in
-    let passed = taken .before in
-    let a = passed .before .before .before .before .before .before .before .before .args in
-    let r = a .self in
-    let more : eqb (r .responses .count + 1) (quorum (r .setup .t) (r .setup .a)) ≡ false = ne-eqb _ _ (λ e. c .if2 .left (e ∙ sym (need .quorum .ensures))) in
-    accepted-by (passed .before .number .ensures) _ (passed .if1 .left)
-    (ap (setResponses r 4) (taken .with .ensures)
-    ∙ sym (ap (λ (b : Bool). pick b (finished (withRow r (a .bytes .now))) (withRow r (a .bytes .now))) more))
+    let row = c .before in
+    let passed = row .before in
+    c .answer2 .ensures ∙ accepted-by (passed .before .number .ensures) _ (passed .if1 .left) (row .with-response .ensures)
 
 pub take-response-spec : {M : Type 1} → statement M
 take-response-spec =
@@ -82,10 +38,6 @@ take-response-spec =
     number-requires
     answer-requires
     returns
-    with-requires
-    cast-rows
-    add-rows
-    quorum-requires
-    finish-requires
-    returns-2
-    returns-3)
+    with-response-requires
+    answer-requires-2
+    returns-2)

@@ -1,0 +1,4 @@
+pub mod Bundles
+pub mod CutLaws
+pub mod RowLaws
+pub mod BundleLaws

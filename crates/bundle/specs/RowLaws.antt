@@ -1,0 +1,142 @@
+-- What a row does to a run at stage 4 or past it: all that rows are tested against is kept, and only the test of its numbers is left where nothing else
+-- refuses it. Assumes nothing.
+use mathlib.Core.Path.{_≡_, refl, sym, ap, _∙_}
+use mathlib.Core.Bool.{Bool, true, false, not}
+use mathlib.Core.List.{List}
+use Prim.Native.Nat.{ℕ, _+_, _≤_, _<_}
+use native.Mathlib.Omega.{arith}
+use native.Mathlib.Decide.{ℕ-discrete}
+use lib.Dec.{eqb}
+use Rattle.lists.specs.Tests.{pick, require, orNext}
+use Rattle.lists.specs.TestLaws.{pick-case, require-true, require-false, or-next, passed}
+use Rattle.sets.specs.Masks.{has}
+use Rattle.parameters.specs.Definitions.{quorum}
+use Rattle.records.specs.Bytes.{sender}
+use Rattle.records.specs.Tags.{Tag, SU, SX, DE, GO, VE, CH, CS, RE, unknown, tagOf}
+use Rattle.refusals.specs.Refusals.{responseRefusal}
+use Rattle.stages.specs.declared.Handler.{Handler}
+use Rattle.stages.specs.declared.Handler.the-variants.{TakeSetup, TakeWaiting, TakeDealing, TakeGo, TakeComplaint, TakeChallenges, TakeShifted, TakeResponse, Refuse}
+use Rattle.stages.specs.Definitions.{takenAt, atStage, handlerAt}
+use Rattle.verification.specs.Definitions.{rowPasses}
+use Rattle.response.specs.Definitions.{responseNumber}
+use Rattle.run.specs.declared.Run.{Run}
+use Rattle.run.specs.declared.Reply.{Reply}
+use Rattle.run.specs.Runs.{wellFormed, stageOf}
+use Rattle.run.specs.RunLaws.{stage-past}
+use Rattle.run.specs.Steps.{withRow, finished, afterResponse, refused, answered, handled, stepOf, untakenBy, untaken}
+use Rattle.run.specs.StepLaws.{off-stage, at-stage}
+
+-- ---- what is kept
+
+pub record Kept (r next : Run) : Type 0 where
+  pub b-same : next .b ≡ r .b
+  pub setup-same : next .setup ≡ r .setup
+  pub dealings-same : next .dealings ≡ r .dealings
+  pub complaints-same : next .complaints ≡ r .complaints
+  pub challenges-same : next .challenges ≡ r .challenges
+  pub late : 4 ≤ stageOf next
+
+pub kept-start : (r : Run) → stageOf r ≡ 4 → Kept r r
+kept-start r e =
+    record {
+      b-same = refl;
+      setup-same = refl;
+      dealings-same = refl;
+      complaints-same = refl;
+      challenges-same = refl;
+      late = omega arith;
+    }
+
+-- a run that keeps stage 4 or more counts as one past stage 3, well formed or not
+stage-least : (r : Run) → 4 ≤ r .stage → 4 ≤ stageOf r
+stage-least r l = rw (stage-past r (λ e. absurd (omega arith))) (pick-case (λ (k : ℕ). 4 ≤ k) (wellFormed r) (r .stage) 6 (λ e. l) (λ e. omega arith))
+
+module _ {r next : Run} (k : Kept r next) (s : List ℕ) where
+  -- with one row more, done or not
+  pub kept-response : Kept r (afterResponse next s)
+  unfolding afterResponse finished withRow
+  kept-response =
+      pick-case (Kept r) (eqb (next .responses .count + 1) (quorum (next .setup .t) (next .setup .a))) (finished (withRow next s)) (withRow next s)
+      (λ e. moved (finished (withRow next s)) refl refl refl refl refl (omega arith))
+      (λ e. moved (withRow next s) refl refl refl refl refl (omega arith))
+    where
+      moved : (z : Run) → z .b ≡ next .b → z .setup ≡ next .setup → z .dealings ≡ next .dealings → z .complaints ≡ next .complaints → z .challenges ≡ next .challenges
+          → 4 ≤ z .stage → Kept r z
+      moved z b e d c h l =
+          record {
+            b-same = b ∙ k .b-same;
+            setup-same = e ∙ k .setup-same;
+            dealings-same = d ∙ k .dealings-same;
+            complaints-same = c ∙ k .complaints-same;
+            challenges-same = h ∙ k .challenges-same;
+            late = stage-least z l;
+          }
+
+-- ---- a row that nothing refuses but its numbers
+
+-- the last of four tests is left where the others pass
+last-left : (k : ℕ) (a c : Bool) (x : ℕ) → orNext (orNext k (require a 12 0)) (require c 14 0) ≡ 0 → orNext k (require a 12 (require c 14 x)) ≡ x
+unfolding orNext
+last-left k a c x e =
+    let both = or-next (orNext k (require a 12 0)) (require c 14 0) e in
+    let first = or-next k (require a 12 0) (both .0) in
+    let none : k ≡ 0 = first .0 in
+    ap (λ (i : ℕ). orNext i (require a 12 (require c 14 x))) none
+    ∙ require-true a 12 (require c 14 x) (passed a 12 0 (first .1) (omega arith) .0)
+    ∙ require-true c 14 x (passed c 14 0 (both .1) (omega arith) .0)
+
+-- its numbers pass
+abbrev pub passesAt : Run → List ℕ → Bool
+passesAt r s = rowPasses (r .b) (r .setup) (r .dealings) (r .complaints) (r .challenges) s
+
+-- after the rows before it a row is tested against what it was
+pub same-test : {r next : Run} → Kept r next → (s : List ℕ) → rowPasses (next .b) (r .setup) (r .dealings) (r .complaints) (r .challenges) s ≡ passesAt next s
+same-test k s = rw (k .setup-same, k .dealings-same, k .complaints-same, k .challenges-same) refl
+
+module _ (r : Run) (s : List ℕ) (l : 4 ≤ stageOf r) where
+  -- a tag that another stage takes is refused
+  eleven : (g : Tag) (h : Handler) → (stageOf r ≡ takenAt g → ⊥) → untakenBy (atStage g (stageOf r) h) r s ≡ 0 → ⊥
+  unfolding untakenBy
+  eleven g h n e = absurd (omega (arith, ap (λ (x : Handler). untakenBy x r s) (off-stage g r h n), e))
+
+  -- so is every earlier one
+  early : (g : Tag) (h : Handler) → takenAt g < 4 → untakenBy (atStage g (stageOf r) h) r s ≡ 0 → ⊥
+  early g h m = eleven g h (λ z. omega arith)
+
+  -- an RE at stage 4 is answered by the test
+  row-left : untakenBy TakeResponse r s ≡ 0 → handled TakeResponse r s ≡ answered r (require (passesAt r s) 15 0) (afterResponse r s)
+  unfolding untakenBy handled responseNumber
+  row-left e =
+      ap (λ (k : ℕ). answered r k (afterResponse r s))
+      (last-left (responseRefusal (r .setup .n) (r .b) s) (not (has (r .responses .responders) (sender s))) (has (r .complaints .holders) (sender s)) (require (passesAt r s) 15 0) e)
+
+  pub only-row : untaken r s ≡ 0 → (stageOf r ≡ 4) × (stepOf r s ≡ answered r (require (passesAt r s) 15 0) (afterResponse r s))
+  unfolding untaken stepOf handlerAt takenAt untakenBy
+  only-row = go (tagOf s)
+    where
+      row : Dec (stageOf r ≡ 4) → untakenBy (atStage RE (stageOf r) TakeResponse) r s ≡ 0
+          → (stageOf r ≡ 4) × (handled (atStage RE (stageOf r) TakeResponse) r s ≡ answered r (require (passesAt r s) 15 0) (afterResponse r s))
+      row (yes z) e =
+          let at = at-stage RE r TakeResponse z in
+          (z, ap (λ (h : Handler). handled h r s) at ∙ row-left (sym (ap (λ (h : Handler). untakenBy h r s) at) ∙ e))
+      row (no z) e = absurd (eleven RE TakeResponse z e)
+
+      go : (g : Tag) → untakenBy (handlerAt g (stageOf r)) r s ≡ 0
+          → (stageOf r ≡ 4) × (handled (handlerAt g (stageOf r)) r s ≡ answered r (require (passesAt r s) 15 0) (afterResponse r s))
+      go SU e = absurd (early SU TakeSetup (omega arith) e)
+      go SX e = absurd (early SX TakeWaiting (omega arith) e)
+      go DE e = absurd (early DE TakeDealing (omega arith) e)
+      go GO e = absurd (early GO TakeGo (omega arith) e)
+      go VE e = absurd (early VE TakeComplaint (omega arith) e)
+      go CH e = absurd (early CH TakeChallenges (omega arith) e)
+      go CS e = absurd (early CS TakeShifted (omega arith) e)
+      go RE e = row (ℕ-discrete (stageOf r) 4) e
+
+      go unknown e = absurd (omega (arith, e))
+
+  -- it is taken where its numbers pass, and else refused
+  pub row-taken : untaken r s ≡ 0 → passesAt r s ≡ true → stepOf r s ≡ record { run = afterResponse r s; number = 0 }
+  row-taken e p = only-row e .1 ∙ ap (λ (k : ℕ). answered r k (afterResponse r s)) (require-true (passesAt r s) 15 0 p)
+
+  pub row-refused : untaken r s ≡ 0 → passesAt r s ≡ false → stepOf r s ≡ refused r 15
+  row-refused e p = only-row e .1 ∙ ap (λ (k : ℕ). answered r k (afterResponse r s)) (require-false (passesAt r s) 15 0 p)
