@@ -136,7 +136,7 @@ impl Coverage {
 }
 
 /// The numbers that never occur, each behind the name of its kind.
-fn absent(kind: &str, wanted: &[u8], counts: &BTreeMap<u8, usize>) -> Vec<String> {
+pub fn absent(kind: &str, wanted: &[u8], counts: &BTreeMap<u8, usize>) -> Vec<String> {
     let absent = wanted.iter().filter(|number| !counts.contains_key(number));
     absent.map(|number| format!("{kind} {number}")).collect()
 }
@@ -153,6 +153,6 @@ pub fn counted_shown(of: &str, wanted: &[String], shown: &BTreeSet<String>) -> S
 }
 
 /// How often each number occurs, a line each.
-fn counted(kind: &str, counts: &BTreeMap<u8, usize>) -> Vec<String> {
+pub fn counted(kind: &str, counts: &BTreeMap<u8, usize>) -> Vec<String> {
     counts.iter().map(|(number, count)| format!("{kind} {number}: {count}")).collect()
 }

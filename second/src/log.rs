@@ -6,8 +6,8 @@ use crate::refusal::Refusal;
 use crate::run::{Run, Stage};
 use std::ops::Range;
 
-/// What reading a log leaves behind.
-#[derive(Clone, Debug)]
+/// What reading a log leaves behind: at first a fresh run and no record.
+#[derive(Clone, Debug, Default)]
 pub struct Reading {
     pub run: Run,
     /// What became of each record.
@@ -38,6 +38,29 @@ impl Reading {
         numbered.filter_map(|(position, given)| Some((position, given.answer.err()?)))
     }
 
+    /// Reads on to the end of a log that begins with the records read so far.
+    pub fn read_on(&mut self, log: &[u8]) {
+        while self.read_next(log) {}
+    }
+
+    /// Gives the run the next record of a log that begins with the records read so far;
+    /// false if there is none.
+    pub fn read_next(&mut self, log: &[u8]) -> bool {
+        let start = self.answers.last().map_or(0, |last| last.place.end);
+        let rest = &log[start..];
+        if rest.is_empty() {
+            return false;
+        }
+        let length = next_length(&self.run, rest);
+        let record = cut(length, rest);
+        let stage = self.run.stage;
+        let answer = self.run.give(record);
+        let (tag, place) = (Tag::of(record), start..start + record.len());
+        let stage_after = self.run.stage;
+        self.answers.push(Given { place, tag, length, stage, answer, stage_after });
+        true
+    }
+
     /// Was a record of this tag accepted?
     pub fn accepted(&self, tag: Tag) -> bool {
         self.answers.iter().any(|given| given.tag == Some(tag) && given.answer.is_ok())
@@ -46,28 +69,17 @@ impl Reading {
 
 /// Reads a log from a fresh run to its end.
 pub fn read_log(log: &[u8]) -> Reading {
-    let mut reading = Reading { run: Run::fresh(), answers: Vec::new() };
-    let mut rest = log;
-    while !rest.is_empty() {
-        let length = next_length(&reading.run, rest);
-        let (record, after) = cut(length, rest);
-        let stage = reading.run.stage;
-        let answer = reading.run.give(record);
-        let (tag, stage_after) = (Tag::of(record), reading.run.stage);
-        let end = log.len() - after.len();
-        let place = end - record.len()..end;
-        reading.answers.push(Given { place, tag, length, stage, answer, stage_after });
-        rest = after;
-    }
+    let mut reading = Reading::default();
+    reading.read_on(log);
     reading
 }
 
-/// The next record, of this length, and the bytes after it. Where no whole record can
-/// be cut, the rest is one record and nothing comes after.
-fn cut(length: Option<usize>, rest: &[u8]) -> (&[u8], &[u8]) {
+/// The next record, of this length. Where no whole record can be cut, the rest is one
+/// record and nothing comes after.
+fn cut(length: Option<usize>, rest: &[u8]) -> &[u8] {
     match length {
-        Some(length) if length <= rest.len() => rest.split_at(length),
-        _ => (rest, &[]),
+        Some(length) if length <= rest.len() => &rest[..length],
+        _ => rest,
     }
 }
 

@@ -1,14 +1,17 @@
-//! The program `second`: prints reports and sets, answers requests and counts members,
-//! and makes logs, requests and masks. Written from documents 01 and 02 alone.
+//! The program `second`: prints reports and sets, answers requests, counts members and
+//! collects bundles of responses, and makes logs, requests, masks and bundles. Written
+//! from documents 01 and 02 alone.
 
+use second::bundle_coverage::BundleCoverage;
 use second::coverage::Coverage;
+use second::generator::bundle_inputs::bundle_inputs;
 use second::generator::calls::all_streams;
 use second::generator::logs::all_logs;
 use second::generator::mask_streams::mask_streams;
 use second::mask_coverage::MaskCoverage;
 use second::report::report;
 use second::sets::sets;
-use second::{masks, requests};
+use second::{bundles, masks, requests};
 use std::fs;
 use std::io::{self, Read, Write};
 use std::path::{Path, PathBuf};
@@ -23,12 +26,15 @@ const USAGE: &str = "usage:
   second write < REQUESTS               answer a stream of writer requests
   second masks DIR [--seed N]           write streams of masks
   second count < MASKS                  count the members of a stream of masks
+  second bundles DIR [--seed N]         write logs with bundles of response rows
+  second collect < BUNDLES              give bundles of response rows to the run of a
+                                        log
   second check-coverage DIR             name the refusals and stages the logs reach,
                                         the answers to CS, and what is missing of
                                         31 to 64 parties, of identities, of the size
                                         of BAD, of runs that wait for more dealers,
-                                        of the sets alone, and in the streams of
-                                        masks";
+                                        of the sets alone, in the streams of masks,
+                                        and in the bundles";
 
 /// The seed when none is given.
 const DEFAULT_SEED: u64 = 1;
@@ -51,12 +57,15 @@ fn obey(words: &[&str]) -> io::Result<ExitCode> {
         ["sets"] => answer(sets),
         ["write"] => answer(requests::answer_stream),
         ["count"] => answer(masks::answer_stream),
+        ["collect"] => answer(bundles::answer_input),
         ["generate", directory] => generate(directory, DEFAULT_SEED),
         ["generate", directory, "--seed", seed] => generate(directory, parse_seed(seed)?),
         ["requests", directory] => write_requests(directory, DEFAULT_SEED),
         ["requests", directory, "--seed", seed] => write_requests(directory, parse_seed(seed)?),
         ["masks", directory] => write_masks(directory, DEFAULT_SEED),
         ["masks", directory, "--seed", seed] => write_masks(directory, parse_seed(seed)?),
+        ["bundles", directory] => write_bundles(directory, DEFAULT_SEED),
+        ["bundles", directory, "--seed", seed] => write_bundles(directory, parse_seed(seed)?),
         ["check-coverage", directory] => check_coverage(directory),
         _ => {
             eprintln!("{USAGE}");
@@ -105,6 +114,10 @@ fn write_masks(directory: &str, seed: u64) -> io::Result<ExitCode> {
     write_streams(directory, "masks", &mask_streams(seed))
 }
 
+fn write_bundles(directory: &str, seed: u64) -> io::Result<ExitCode> {
+    write_streams(directory, "bundles", &bundle_inputs(seed))
+}
+
 fn write_streams(directory: &str, extension: &str, streams: &[Vec<u8>]) -> io::Result<ExitCode> {
     fs::create_dir_all(directory)?;
     for (number, stream) in (1..).zip(streams) {
@@ -116,16 +129,20 @@ fn write_streams(directory: &str, extension: &str, streams: &[Vec<u8>]) -> io::R
 
 fn check_coverage(directory: &str) -> io::Result<ExitCode> {
     let (mut logs, mut masks) = (Coverage::default(), MaskCoverage::default());
+    let mut bundles = BundleCoverage::default();
     for path in paths(directory, "log")? {
         logs.add(&fs::read(path)?);
     }
     for path in paths(directory, "masks")? {
         masks.add(&fs::read(path)?);
     }
-    for line in [logs.lines(), masks.lines()].concat() {
+    for path in paths(directory, "bundles")? {
+        bundles.add(&fs::read(path)?);
+    }
+    for line in [logs.lines(), masks.lines(), bundles.lines()].concat() {
         println!("{line}");
     }
-    let missing = [logs.missing(), masks.missing()].concat();
+    let missing = [logs.missing(), masks.missing(), bundles.missing()].concat();
     for what in &missing {
         println!("missing {what}");
     }

@@ -17,8 +17,12 @@ pub fn report(log: &[u8]) -> String {
     if log.len() > LONGEST_LOG {
         return LONG.to_string();
     }
-    let reading = read_log(log);
-    as_text(&report_lines(&reading))
+    report_of(&read_log(log))
+}
+
+/// The same of a log that has been read.
+pub fn report_of(reading: &Reading) -> String {
+    as_text(&report_lines(reading))
 }
 
 /// The lines, each with its line feed.

@@ -15,8 +15,9 @@
 //! takes or says, the rest is one broken request.
 
 use crate::log::read_log;
+use crate::reader::Reader;
 use crate::refusal::answer_number;
-use crate::report::{LONG, LONGEST_LOG};
+use crate::report::LONG;
 use crate::writers::{write_de, write_re, write_su, write_ve};
 
 /// The longest stream that is read.
@@ -25,8 +26,8 @@ pub const LONGEST_STREAM: usize = 262_144;
 /// The answer to a broken request.
 pub const BROKEN: &str = "broken\n";
 
-/// What a buffer is filled with before the writer is called.
-const FILLER: u8 = 0xA5;
+/// What a buffer or a list is filled with before it is lent.
+pub const FILLER: u8 = 0xA5;
 
 /// One call of a writer.
 #[derive(Clone, Debug)]
@@ -59,11 +60,10 @@ impl Request {
         (answer_number(answer), buffer)
     }
 
-    /// The answer as a line: the number, one space, the buffer in hex.
+    /// The answer as a line.
     pub fn answer_line(&self) -> String {
         let (number, buffer) = self.answer();
-        let hex: String = buffer.iter().map(|byte| format!("{byte:02x}")).collect();
-        format!("{number} {hex}\n")
+        line_of(number, &buffer)
     }
 
     /// The request's bytes.
@@ -117,6 +117,12 @@ pub fn framed(request: &[u8]) -> Vec<u8> {
     [&length.to_be_bytes(), request].concat()
 }
 
+/// A call's answer as a line: the number, one space, what was lent to it in hex.
+pub fn line_of(number: u8, lent: &[u8]) -> String {
+    let hex: String = lent.iter().map(|byte| format!("{byte:02x}")).collect();
+    format!("{number} {hex}\n")
+}
+
 /// The answers to a stream, a line each.
 pub fn answer_stream(stream: &[u8]) -> String {
     if stream.len() > LONGEST_STREAM {
@@ -136,31 +142,8 @@ fn line_for(bytes: Option<&[u8]>) -> String {
     request.map_or_else(|| BROKEN.to_string(), |request| request.answer_line())
 }
 
-/// The part of a stream, or of a request, that is not read yet.
-struct Reader<'a> {
-    rest: &'a [u8],
-}
-
+/// The pieces of a request.
 impl<'a> Reader<'a> {
-    fn bytes(&mut self, count: usize) -> Option<&'a [u8]> {
-        let (taken, rest) = self.rest.split_at_checked(count)?;
-        self.rest = rest;
-        Some(taken)
-    }
-
-    fn byte(&mut self) -> Option<u8> {
-        self.bytes(1).map(|bytes| bytes[0])
-    }
-
-    fn two(&mut self) -> Option<u16> {
-        self.bytes(2).map(|bytes| u16::from_be_bytes([bytes[0], bytes[1]]))
-    }
-
-    fn four(&mut self) -> Option<u32> {
-        let bytes = self.bytes(4)?;
-        Some(u32::from_be_bytes([bytes[0], bytes[1], bytes[2], bytes[3]]))
-    }
-
     fn params(&mut self) -> Option<(u8, u8, u8)> {
         Some((self.byte()?, self.byte()?, self.byte()?))
     }
@@ -168,12 +151,6 @@ impl<'a> Reader<'a> {
     fn list(&mut self) -> Option<Vec<u32>> {
         let count = self.two()?;
         (0..count).map(|_| self.four()).collect()
-    }
-
-    fn log(&mut self) -> Option<Vec<u8>> {
-        let length = self.four()? as usize;
-        let log = self.bytes(length)?;
-        (length <= LONGEST_LOG).then(|| log.to_vec())
     }
 
     fn call(&mut self) -> Option<Call> {
@@ -199,8 +176,7 @@ impl<'a> Reader<'a> {
 
     /// The bytes of a stream's next request; none, and nothing is left, if it is cut.
     fn frame(&mut self) -> Option<&'a [u8]> {
-        let length = self.four();
-        let request = length.and_then(|length| self.bytes(length as usize));
+        let request = self.framed();
         if request.is_none() {
             self.rest = &[];
         }

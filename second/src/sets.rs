@@ -13,9 +13,13 @@ pub fn sets(log: &[u8]) -> String {
     if log.len() > LONGEST_LOG {
         return LONG.to_string();
     }
-    let reading = read_log(log);
+    sets_of(&read_log(log))
+}
+
+/// The same of a log that has been read.
+pub fn sets_of(reading: &Reading) -> String {
     let mut lines = set_lines(&reading.run);
-    lines.push(format!("bytes {}", consumed(&reading)));
+    lines.push(format!("bytes {}", consumed(reading)));
     as_text(&lines)
 }
 

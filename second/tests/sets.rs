@@ -14,12 +14,12 @@ use second::generator::logs::all_logs;
 use second::generator::wait_lengths::flooded;
 use second::generator::waits::{as_waiting, draft_of_all, never_waiting};
 use second::generator::{sets_brought, sets_ends, sets_sizes};
-use second::log::{read_log, Given};
+use second::log::{read_log, Given, Reading};
 use second::records::Tag;
-use second::report::{report, LONGEST_LOG};
+use second::report::{report, report_of, LONGEST_LOG};
 use second::rng::Rng;
-use second::run::Stage;
-use second::sets::sets;
+use second::run::{Run, Stage};
+use second::sets::{consumed, sets, sets_of};
 use second::sets_coverage::wanted;
 use std::collections::BTreeSet;
 use std::fs;
@@ -27,6 +27,10 @@ use std::io::Write;
 use std::path::{Path, PathBuf};
 use std::process::{Command, Stdio};
 use std::sync::OnceLock;
+use std::thread;
+
+/// Logs of up to so many bytes take little time to read.
+const SMALL: usize = 3_000;
 
 const NO_SETS: &str = "hold -\nqual -\nbad -\n";
 
@@ -285,27 +289,102 @@ fn set_lines(page: &str) -> Vec<&str> {
     page.lines().filter(|line| names.iter().any(|name| line.starts_with(name))).collect()
 }
 
-/// The logs of seed 1 that are not too long, each with its sets and count, found once.
-fn logs() -> &'static [(NamedLog, String)] {
-    static LOGS: OnceLock<Vec<(NamedLog, String)>> = OnceLock::new();
+/// What may stand behind the record that fixes the sets.
+fn tails() -> [Vec<u8>; 6] {
+    [
+        b"G".to_vec(),
+        b"GO".to_vec(),
+        b"XX\0".to_vec(),
+        b"SU\x04\x01".to_vec(),
+        challenges(),
+        worked(),
+    ]
+}
+
+/// A log, what became of its records, its sets and its page.
+struct Read {
+    log: NamedLog,
+    answers: Vec<Given>,
+    sets: String,
+    page: String,
+    about: Option<About>,
+}
+
+/// The sets of a log that ends about the record which fixes them.
+struct About {
+    /// With it last, and without its last byte.
+    last: String,
+    cut: String,
+    /// With each tail behind it, where the log is not too long then.
+    followed: Vec<String>,
+}
+
+/// Does the run need one complaint row more?
+fn lacks_a_row(run: &Run) -> bool {
+    run.stage == Stage::Complaining && run.complaints.len() + 1 == run.params().majority()
+}
+
+/// Reads a log to its end, and keeps the reading that lacked one complaint row.
+fn read(log: &[u8]) -> (Reading, Option<Reading>) {
+    let (mut reading, mut lacking) = (Reading::default(), None);
+    while reading.read_next(log) {
+        if lacking.is_none() && lacks_a_row(&reading.run) {
+            lacking = Some(reading.clone());
+        }
+    }
+    (reading, lacking)
+}
+
+/// The sets of logs that end about the record which fixes those of this one: what comes
+/// before it is not read again.
+fn about(log: &[u8], reading: &Reading, lacking: Option<Reading>) -> Option<About> {
+    let (lacking, _) = lacking.zip(reading.run.sets.as_ref())?;
+    let resumed = |log: &[u8]| {
+        let mut reading = lacking.clone();
+        reading.read_on(log);
+        sets_of(&reading)
+    };
+    let fixing = &log[..consumed(reading)];
+    let longer = tails().map(|tail| [fixing, &tail].concat());
+    let longer = longer.iter().filter(|log| log.len() <= LONGEST_LOG);
+    let followed = longer.map(|log| resumed(log)).collect();
+    Some(About { last: resumed(fixing), cut: resumed(&fixing[..fixing.len() - 1]), followed })
+}
+
+impl Read {
+    fn of(log: NamedLog) -> Read {
+        let (reading, lacking) = read(&log.bytes);
+        let about = about(&log.bytes, &reading, lacking);
+        let (sets, page) = (sets_of(&reading), report_of(&reading));
+        Read { log, answers: reading.answers, sets, page, about }
+    }
+}
+
+/// The logs of seed 1 that are not too long, each read once, on two threads.
+fn logs() -> &'static [Read] {
+    static LOGS: OnceLock<Vec<Read>> = OnceLock::new();
     LOGS.get_or_init(|| {
-        let (read, long): (Vec<NamedLog>, Vec<NamedLog>) =
+        let (short, long): (Vec<NamedLog>, Vec<NamedLog>) =
             all_logs(1).into_iter().partition(|log| log.bytes.len() <= LONGEST_LOG);
         assert!(long.iter().all(|log| sets(&log.bytes) == "long\n"));
-        let with_sets = |log: NamedLog| {
-            let answer = sets(&log.bytes);
-            (log, answer)
+        let (even, odd): (Vec<_>, Vec<_>) =
+            (0..).zip(short).partition(|(place, _): &(usize, NamedLog)| place % 2 == 0);
+        let all = |logs: Vec<(usize, NamedLog)>| -> Vec<Read> {
+            logs.into_iter().map(|(_, log)| Read::of(log)).collect()
         };
-        read.into_iter().map(with_sets).collect()
+        let other = thread::spawn(move || all(odd));
+        let mut read = all(even);
+        read.extend(other.join().expect("the logs are read"));
+        read
     })
 }
 
 /// Every log's sets are those of its page, and no more bytes are counted than there are.
 #[test]
 fn every_log_has_the_sets_of_its_page() {
-    for (log, answer) in logs() {
-        let (lines, count) = parts(answer);
-        assert_eq!(lines, set_lines(&report(&log.bytes)), "{}", log.kind);
+    for Read { log, sets, page, .. } in logs() {
+        let (lines, count) = parts(sets);
+        assert_eq!(lines, set_lines(page), "{}", log.kind);
         assert!(count <= log.bytes.len(), "{}", log.kind);
     }
 }
@@ -314,14 +393,29 @@ fn every_log_has_the_sets_of_its_page() {
 /// whatever stands behind them changes nothing.
 #[test]
 fn the_bytes_counted_fix_the_sets() {
-    let behind = [&b"G"[..], b"GO", b"XX\0", b"SU\x04\x01", &challenges(), &worked()];
-    let fixed = logs().iter().filter(|(_, answer)| !answer.starts_with(NO_SETS));
-    for ((log, answer), tail) in fixed.zip(behind.iter().cycle()) {
-        let fixing = &log.bytes[..parts(answer).1];
-        assert_eq!(sets(fixing), *answer, "{}", log.kind);
-        assert!(sets(&fixing[..fixing.len() - 1]).starts_with(NO_SETS), "{}", log.kind);
-        let more = [fixing, tail].concat();
-        assert!(more.len() > LONGEST_LOG || sets(&more) == *answer, "{}", log.kind);
+    for Read { log, sets, about, .. } in logs() {
+        assert_eq!(about.is_none(), sets.starts_with(NO_SETS), "{}", log.kind);
+        let Some(about) = about else { continue };
+        assert_eq!(about.last, *sets, "{}", log.kind);
+        assert!(about.cut.starts_with(NO_SETS), "{}", log.kind);
+        assert!(about.followed.iter().all(|followed| followed == sets), "{}", log.kind);
+        assert!(!about.followed.is_empty() || log.bytes.len() == LONGEST_LOG, "{}", log.kind);
+    }
+}
+
+/// The same of small logs, each time read from the beginning.
+#[test]
+fn small_logs_read_from_their_beginning() {
+    let small = logs().iter().filter(|read| read.log.bytes.len() <= SMALL);
+    assert!(small.clone().count() >= 1_200);
+    for (Read { log, sets: answer, page, about, .. }, tail) in small.zip(tails().iter().cycle()) {
+        assert_eq!((sets(&log.bytes), report(&log.bytes)), (answer.clone(), page.clone()));
+        if about.is_some() {
+            let fixing = &log.bytes[..parts(answer).1];
+            assert_eq!(sets(fixing), *answer, "{}", log.kind);
+            assert!(sets(&fixing[..fixing.len() - 1]).starts_with(NO_SETS), "{}", log.kind);
+            assert_eq!(sets(&[fixing, tail].concat()), *answer, "{}", log.kind);
+        }
     }
 }
 
@@ -386,13 +480,13 @@ impl Known {
 
 /// The bytes of a log to be counted, from the answers to its records and the words of the
 /// documents: the (n-t)th accepted VE fixes the sets.
-fn count_by_words(log: &[u8]) -> usize {
+fn count_by_words(log: &[u8], answers: &[Given]) -> usize {
     let (mut known, mut sum) = (Known::default(), 0);
-    for given in read_log(log).answers {
+    for given in answers {
         let record = &log[given.place.clone()];
         let length = given.tag.and_then(|tag| known.length(tag, record));
         sum += length.filter(|&length| length <= record.len()).unwrap_or(0);
-        if known.learn(&given, record) {
+        if known.learn(given, record) {
             break;
         }
     }
@@ -401,8 +495,8 @@ fn count_by_words(log: &[u8]) -> usize {
 
 #[test]
 fn every_log_is_counted_by_the_words() {
-    for (log, answer) in logs() {
-        assert_eq!(parts(answer).1, count_by_words(&log.bytes), "{}", log.kind);
+    for Read { log, answers, sets, .. } in logs() {
+        assert_eq!(parts(sets).1, count_by_words(&log.bytes, answers), "{}", log.kind);
     }
 }
 

@@ -32,9 +32,11 @@ pub record Outcome : Type 0 where
 abbrev pub outcome : Run → ℕ → List ℕ → Outcome
 outcome r k list = record { run = r; number = k; list = list }
 
--- at another stage than 4 it is refused with 11, then with a list that has not one place a row with 10, and run and list are untouched; else run and
--- numbers are those of the rows given one by one
+-- the rows given to the run one by one
+abbrev pub given : Run → List ℕ → Outcome
+given r s = outcome (afterFrom r (rowsOf (r .b) s)) 0 (numbersFrom r (rowsOf (r .b) s))
+
+-- at another stage than 4 it is refused with 11, then with a list that has not one place a row with 10, and run and list are untouched
 unfoldable pub bundled : Run → List ℕ → List ℕ → Outcome
 bundled r s list =
-    let rows = rowsOf (r .b) s in
-    pick (eqb (stageOf r) 4) (pick (eqb (length list) (length rows)) (outcome (afterFrom r rows) 0 (numbersFrom r rows)) (outcome r 10 list)) (outcome r 11 list)
+    pick (eqb (stageOf r) 4) (pick (eqb (length list) (length (rowsOf (r .b) s))) (given r s) (outcome r 10 list)) (outcome r 11 list)

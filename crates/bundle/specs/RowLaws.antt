@@ -131,7 +131,6 @@ module _ (r : Run) (s : List ℕ) (l : 4 ≤ stageOf r) where
       go CH e = absurd (early CH TakeChallenges (omega arith) e)
       go CS e = absurd (early CS TakeShifted (omega arith) e)
       go RE e = row (ℕ-discrete (stageOf r) 4) e
-
       go unknown e = absurd (omega (arith, e))
 
   -- it is taken where its numbers pass, and else refused

@@ -34,7 +34,11 @@ pub fn take_rows(run: Run, bytes: &[u8], numbers: &mut [u8]) -> Reply
     let mut from: usize = 0;
     for x in 0..count {
         let rest = &bytes[from..];
-        let size = if rest.len() < length { rest.len() } else { length };
+        let size = if rest.len() < length {
+            rest.len()
+        } else {
+            length
+        };
         let row = &rest[..size];
         // without a test first, which does not copy the run
         let mut number = next.untaken(row);

@@ -5,28 +5,9 @@ ghost use lib.ListN.{length};
 use libc::STDERR_FILENO;
 use libc::STDIN_FILENO;
 use libc::STDOUT_FILENO;
-use log::LONGEST;
 use run::Run;
-
-// The bytes of a number, and of a count or a buffer's length.
-const NUMBER: usize = 4;
-
-const COUNT: usize = 2;
-
-// A number of two bytes.
-fn two(s: &[u8], at: usize) -> usize
-    requires { ⌜ at ≤ 16777216 ⌝ }
-    ensures { λ r. ⌜ r ≤ 65535 ⌝ }
-{
-    (records::byte(s, at) as u16 * 256 + records::byte(s, at + 1) as u16) as usize
-}
-
-// A number of four bytes.
-fn four(s: &[u8], at: usize) -> u32
-    requires { ⌜ at ≤ 16777216 ⌝ }
-{
-    records::number(s, at as u32)
-}
+use streams::COUNT;
+use streams::NUMBER;
 
 // The numbers from a place on, as many as the list has room for.
 fn load(s: &[u8], at: usize, list: &mut [u32])
@@ -35,57 +16,8 @@ fn load(s: &[u8], at: usize, list: &mut [u32])
 {
     let count = list.len();
     for i in 0..count {
-        list[i] = four(s, at + NUMBER * i);
+        list[i] = streams::four(s, at + NUMBER * i);
     }
-}
-
-// What a buffer is filled with before it is lent.
-const FILLER: u8 = 165;
-
-fn fill(out: &mut [u8]) {
-    let size = out.len();
-    for i in 0..size {
-        out[i] = FILLER;
-    }
-}
-
-// A byte as two digits of base sixteen.
-fn print_byte(byte: u8) {
-    io::print_hex(STDOUT_FILENO, byte as u64, 2);
-}
-
-// The line of an answer: its number, and the buffer.
-fn answer(number: u8, out: &[u8]) {
-    console::print_number(number as u64);
-    let size = out.len();
-    for i in 0..size {
-        print_byte(out[i]);
-    }
-    console::end_line();
-}
-
-// The line of a broken request.
-fn answer_broken() {
-    io::write_all(STDOUT_FILENO, b"broken\n");
-}
-
-// The run after a log.
-fn run_of(log: &[u8]) -> Run {
-    let mut run = Run::fresh();
-    let mut from: usize = 0;
-    let turns: usize = LONGEST;
-    for _ in 0..turns {
-        if from < log.len() {
-            let rest = &log[from..];
-            let size = log::next_length(run, rest);
-            if size <= rest.len() {
-                let reply = run.step(&rest[..size]);
-                run = reply.run;
-                from += size;
-            }
-        }
-    }
-    run
 }
 
 // The kinds of request.
@@ -111,13 +43,13 @@ fn values_count(kind: u8, s: &[u8]) -> usize
     ensures { λ r. ⌜ r ≤ 65535 ⌝ }
 {
     if kind == SETUP {
-        return two(s, SETUP_FIELDS);
+        return streams::two(s, SETUP_FIELDS);
     }
     if kind == DEALING {
-        return two(s, DEALING_FIELDS);
+        return streams::two(s, DEALING_FIELDS);
     }
     if kind == RESPONSE {
-        return two(s, RESPONSE_FIELDS);
+        return streams::two(s, RESPONSE_FIELDS);
     }
     0
 }
@@ -144,14 +76,14 @@ fn write(kind: u8, run: Run, s: &[u8], values: &[u32], out: &mut [u8]) -> u8 {
     let second = records::byte(s, 1);
     let third = records::byte(s, 2);
     if kind == SETUP {
-        return dealer::write_setup(first, second, third, four(s, 3), values, out);
+        return dealer::write_setup(first, second, third, streams::four(s, 3), values, out);
     }
     if kind == DEALING {
         let i = records::byte(s, 3);
         return dealer::write_dealing(first, second, third, i, values, out);
     }
     if kind == RESPONSE {
-        return writers::write_response(run, first, four(s, 1), values, out);
+        return writers::write_response(run, first, streams::four(s, 1), values, out);
     }
     writers::write_complaint(run, first, out)
 }
@@ -165,14 +97,14 @@ fn serve_fields(kind: u8, run: Run, s: &[u8], list: &mut [u32], out: &mut [u8])
     let from = values_from(kind);
     let end = from + NUMBER * count;
     if s.len() != end + COUNT {
-        answer_broken();
+        streams::answer_broken();
         return;
     }
-    let room = two(s, end);
+    let room = streams::two(s, end);
     load(s, from, &mut list[..count]);
-    fill(&mut out[..room]);
+    streams::fill(&mut out[..room]);
     let number = write(kind, run, s, &list[..count], &mut out[..room]);
-    answer(number, &out[..room]);
+    streams::answer(number, &out[..room]);
 }
 
 // Answers a VE or RE, from what follows the kind: the length of the log, the log, and the rest.
@@ -180,17 +112,12 @@ fn serve_log(kind: u8, s: &[u8], list: &mut [u32], out: &mut [u8])
     requires { ⌜ 65535 ≤ length (now list) ⌝ }
     requires { ⌜ 65535 ≤ length (now out) ⌝ }
 {
-    let size = four(s, 0) as usize;
-    if LONGEST < size {
-        answer_broken();
+    let end = streams::log_end(s);
+    if end < NUMBER {
+        streams::answer_broken();
         return;
     }
-    let end = NUMBER + size;
-    if s.len() < end {
-        answer_broken();
-        return;
-    }
-    let run = run_of(&s[NUMBER..end]);
+    let run = streams::run_of(&s[NUMBER..end]);
     serve_fields(kind, run, &s[end..], list, out);
 }
 
@@ -200,7 +127,7 @@ fn serve(request: &[u8], list: &mut [u32], out: &mut [u8])
     requires { ⌜ 65535 ≤ length (now out) ⌝ }
 {
     if request.len() < 1 {
-        answer_broken();
+        streams::answer_broken();
         return;
     }
     let kind = records::byte(request, 0);
@@ -212,7 +139,7 @@ fn serve(request: &[u8], list: &mut [u32], out: &mut [u8])
         serve_log(kind, &request[1..], list, out);
         return;
     }
-    answer_broken();
+    streams::answer_broken();
 }
 
 // Answers the request that a stream goes on with, and returns how many bytes it took with its length: all that are left where it is cut.
@@ -224,12 +151,12 @@ fn serve_next(rest: &[u8], list: &mut [u32], out: &mut [u8]) -> usize
 {
     let left = rest.len();
     if left < NUMBER {
-        answer_broken();
+        streams::answer_broken();
         return left;
     }
-    let size = four(rest, 0) as usize;
+    let size = streams::four(rest, 0) as usize;
     if left - NUMBER < size {
-        answer_broken();
+        streams::answer_broken();
         return left;
     }
     let end = NUMBER + size;

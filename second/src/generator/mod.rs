@@ -1,4 +1,4 @@
-//! Seeded logs, writer requests and masks for comparing this program with another.
+//! Seeded logs, writer requests, masks and bundles for comparing this program with another.
 //! Each module uses those above it in this list alone.
 //!
 //! - `bytes`: numbers inside a record
@@ -18,8 +18,20 @@
 //! - `broken_calls`: broken requests, and streams that are cut or too long
 //! - `calls`: every stream of requests
 //! - `mask_streams`: every stream of masks
+//! - `bundle_draft`: an input of bundles in the making, beside the run that reads it
+//! - `bundle_counts`, `bundle_faults`, `bundle_cuts`, `bundle_lists`, `bundle_lots`,
+//!   `bundle_forms`: every kind of input of bundles
+//! - `bundle_inputs`: every input of bundles
 
 pub mod broken_calls;
+pub mod bundle_counts;
+pub mod bundle_cuts;
+pub mod bundle_draft;
+pub mod bundle_faults;
+pub mod bundle_forms;
+pub mod bundle_inputs;
+pub mod bundle_lists;
+pub mod bundle_lots;
 pub mod bytes;
 pub mod calls;
 pub mod committee;

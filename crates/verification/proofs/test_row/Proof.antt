@@ -267,9 +267,9 @@ loop-again c =
     let point : v < stride = omega (arith, few, more) in (
       more,
       λ list h.
-      let values = valuesAt (a .setup .n) (a .qual) (need b .quorum .result) list (u + 1) in
-      let value = value-at (a .setup .n) (a .qual) (need b .quorum .result) list h few u v _ within (grown j .0) point in
-      c .with .ensures
+          let values = valuesAt (a .setup .n) (a .qual) (need b .quorum .result) list (u + 1) in
+          let value = value-at (a .setup .n) (a .qual) (need b .quorum .result) list h few u v _ within (grown j .0) point in
+          c .with .ensures
           ∙ ap₂ product (l .loop .inv .1 list h) (ap (λ (x : Element). raise x (getD (b .weights2 .result .at) v (scalar 0))) value)
           ∙ sym (product-next (b .weights2 .result) values v identity point (omega (arith, point, elements-length (need b .quorum .result) (combinedValue (a .setup .n) (has (a .qual)) (commitmentIn list) (u + 1))))),
     )
@@ -322,8 +322,8 @@ row-again c =
       r .row .inv .3,
       omega (arith, grown j .0),
       λ list h.
-      let good = sym (compared k list h) ∙ not-false _ (c .if2 .left) in
-      (grown j .1 list h, all-next (r .row .u) (fits-of b list) ∙ rw (r .row .inv .5 list h .1, good)),
+          let good = sym (compared k list h) ∙ not-false _ (c .if2 .left) in
+          (grown j .1 list h, all-next (r .row .u) (fits-of b list) ∙ rw (r .row .inv .5 list h .1, good)),
     )
 
 returns : tie.Need-returns Inv-loop μ-loop Inv-row μ-row

@@ -3,8 +3,8 @@ use Prim.Native.Nat.{_≤_, _-_}
 use native.Mathlib.Omega.{arith}
 use lib.ListN.{length-take, length-drop}
 use borrow.Author.Needs.{needs}
-use Rattle.scribe.proofs.run_of.Statement.{statement}
-use Rattle.scribe.proofs.run_of.Tie as tie
+use Rattle.streams.proofs.run_of.Statement.{statement}
+use Rattle.streams.proofs.run_of.Tie as tie
 
 abbrev Inv-loop : tie.InvT-loop
 Inv-loop log run₀ from₀ turns counter₀ run from counter = counter ≤ 65536

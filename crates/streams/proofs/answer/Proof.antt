@@ -2,8 +2,8 @@
 use Prim.Native.Nat.{_≤_, _-_}
 use native.Mathlib.Omega.{arith}
 use borrow.Author.Needs.{needs}
-use Rattle.scribe.proofs.answer.Statement.{statement}
-use Rattle.scribe.proofs.answer.Tie as tie
+use Rattle.streams.proofs.answer.Statement.{statement}
+use Rattle.streams.proofs.answer.Tie as tie
 
 abbrev Inv-loop : tie.InvT-loop
 Inv-loop number out size i₀ i = i ≤ size

@@ -4,8 +4,8 @@ use native.Mathlib.Omega.{arith}
 use mathlib.Core.Path.{_≡_, _∙_, ap}
 use lib.ListN.{length, length-set}
 use borrow.Author.Needs.{needs}
-use Rattle.scribe.proofs.fill.Statement.{statement}
-use Rattle.scribe.proofs.fill.Tie as tie
+use Rattle.streams.proofs.fill.Statement.{statement}
+use Rattle.streams.proofs.fill.Tie as tie
 
 abbrev Inv-loop : tie.InvT-loop
 Inv-loop out₀ size i₀ out i = (i ≤ size) × (length out ≡ length out₀)
