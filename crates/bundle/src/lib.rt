@@ -11,18 +11,12 @@ pub fn take_rows(run: Run, bytes: &[u8], numbers: &mut [u8]) -> Reply
     ensures { λ r. ⌜ outcome (r .run) (r .number) (now (numbers .exit)) ≡ bundled run (now (bytes .entry)) (now (numbers .entry)) ⌝ }
 {
     if run.stage_of() != 4 {
-        return Reply {
-            run: run,
-            number: 11,
-        };
+        return run.answer(11);
     }
     let length = records::response_length(run.b);
     let count = numbers.len();
     if count != (bytes.len() + (length - 1)) / length {
-        return Reply {
-            run: run,
-            number: 10,
-        };
+        return run.answer(10);
     }
     let setup = run.setup;
     let complaints = run.complaints;
@@ -55,8 +49,5 @@ pub fn take_rows(run: Run, bytes: &[u8], numbers: &mut [u8]) -> Reply
         numbers[x] = number;
         from += size;
     }
-    Reply {
-        run: next,
-        number: 0,
-    }
+    next.answer(0)
 }

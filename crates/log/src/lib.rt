@@ -152,7 +152,7 @@ fn rows_length(b: u8, rows: usize, left: usize) -> usize
     if left < whole { left } else { whole }
 }
 
-// The page of a log that is not too long, into a buffer with room for every page. Rows that a run may be given in one call are.
+// The page of a log that is not too long, into a buffer with room for every page. Rows from one on that is to be tested are given in one call.
 fn put_page(log: &[u8], out: &mut [u8]) -> usize
     requires { ⌜ (length (now log) ≤ longest) × (mostReport ≤ length (now out)) ⌝ }
     ensures { λ r. ⌜ Wrote (now (out .entry)) (now (out .exit)) 0 r (refusalLines 1 fresh (recordsOf (now (log .entry))) ++ closing (runOf (now (log .entry)))) ⌝ }
@@ -164,25 +164,25 @@ fn put_page(log: &[u8], out: &mut [u8]) -> usize
     let mut position: u32 = 1;
     while from < log.len() {
         let rest = &log[from..];
-        let mut count = rows_ahead(run, rest);
-        let mut size = rows_length(run.b, count, rest.len());
-        if 0 < count {
-            let reply = bundle::take_rows(run, &rest[..size], &mut numbers[..count]);
-            run = reply.run;
-        } else {
-            size = next_length(run, rest);
-            let record = &rest[..size];
-            // by tag and stage first, which does not copy the run
-            let mut number = run.untaken(record);
-            if number == 0 {
-                let reply = run.step(record);
-                number = reply.number;
-                if number == 0 {
-                    run = reply.run;
-                }
-            }
+        let mut count: usize = 1;
+        let mut size = next_length(run, rest);
+        let record = &rest[..size];
+        // by tag and stage first, which does not copy the run
+        let number = run.untaken(record);
+        if number != 0 {
             numbers[0] = number;
-            count = 1;
+        } else {
+            let rows = rows_ahead(run, rest);
+            if 0 < rows {
+                count = rows;
+                size = rows_length(run.b, rows, rest.len());
+                let reply = bundle::take_rows(run, &rest[..size], &mut numbers[..rows]);
+                run = reply.run;
+            } else {
+                let reply = run.step(record);
+                numbers[0] = reply.number;
+                run = reply.run;
+            }
         }
         at = put_refusals(out, at, position, &numbers[..count]);
         from += size;

@@ -134,7 +134,7 @@ impl Run {
     }
 
     // The run with a number: a refusal's, or 0.
-    fn answer(self, number: u8) -> Reply
+    pub fn answer(self, number: u8) -> Reply
         ensures { λ r. ⌜ r ≡ refused self number ⌝ }
     {
         Reply {

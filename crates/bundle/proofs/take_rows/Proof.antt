@@ -42,6 +42,10 @@ abbrev μ-loop : tie.MeasureT-loop
 μ-loop bytes numbers₀ length count setup challenges qual combined₀ next₀ from₀ x₀ numbers combined next from x =
     count - x
 
+-- what a reply leaves, with a list
+left-as : {y z : Reply} → y ≡ z → (list : List ℕ) → outcome (y .run) (y .number) list ≡ outcome (z .run) (z .number) list
+left-as e list = ap (λ (y : Reply). outcome (y .run) (y .number) list) e
+
 -- ---- what is known before the rows
 
 abbrev sized : tie.After-none Inv-loop μ-loop → tie.After-response-length Inv-loop μ-loop
@@ -167,11 +171,14 @@ answered-row k =
 stage-of-requires : tie.Need-stage-of-requires Inv-loop μ-loop
 stage-of-requires c κs = search needs
 
+answer-requires : tie.Need-answer-requires Inv-loop μ-loop
+answer-requires c κs = search needs
+
 returns : tie.Need-returns Inv-loop μ-loop
 returns c =
-    let asked = c .before in
+    let asked = c .before .before in
     let a = asked .before .before .before .args in
-    sym (bundle-stage (a .run) (a .bytes .now) (a .numbers .now) (λ e. c .if1 .taken (asked .stage-of .ensures ∙ e)))
+    left-as (c .answer .ensures) (a .numbers .now) ∙ sym (bundle-stage (a .run) (a .bytes .now) (a .numbers .now) (λ e. c .before .if1 .taken (asked .stage-of .ensures ∙ e)))
 
 response-length-requires : tie.Need-response-length-requires Inv-loop μ-loop
 response-length-requires c κs = search needs
@@ -190,11 +197,14 @@ div-if2 : tie.Need-div-if2 Inv-loop μ-loop
 unfolding responseLength
 div-if2 c = omega (arith, c .response-length .ensures)
 
+answer-requires-2 : tie.Need-answer-requires-2 Inv-loop μ-loop
+answer-requires-2 c κs = search needs
+
 returns-2 : tie.Need-returns-2 Inv-loop μ-loop
 returns-2 c =
-    let m = c .before in
+    let m = c .before .before in
     let a = m .before .before .before .before .before .args in
-    sym (bundle-places (a .run) (a .bytes .now) (a .numbers .now) (at-four (m .before)) (λ e. c .if2 .taken (e ∙ counted m)))
+    left-as (c .answer2 .ensures) (a .numbers .now) ∙ sym (bundle-places (a .run) (a .bytes .now) (a .numbers .now) (at-four (m .before)) (λ e. c .before .if2 .taken (e ∙ counted m)))
 
 unblamed-requires : tie.Need-unblamed-requires Inv-loop μ-loop
 unblamed-requires c κs = search needs
@@ -266,20 +276,25 @@ loop-again c =
       now .2,
     )
 
+answer-requires-3 : tie.Need-answer-requires-3 Inv-loop μ-loop
+answer-requires-3 c κs = search needs
+
 same-length : tie.Need-same-length Inv-loop μ-loop
-same-length c = c .before .loop .inv .1 .places
+same-length c = c .before .before .loop .inv .1 .places
 
 returns-3 : tie.Need-returns-3 Inv-loop μ-loop
 unfolding rowsOf
 returns-3 c =
-    let l = c .before in
+    let end-of = c .before in
+    let l = end-of .before in
     let n = l .before in
     let m = sized n in
     let a = start n .args in
-    let end : length (a .numbers .now) ≤ l .loop .x = omega (arith, c .loop-test .left) in
+    let end : length (a .numbers .now) ≤ l .loop .x = omega (arith, end-of .loop-test .left) in
     let size = m .response-length .ensures in
     let rows : cut (m .response-length .result) (a .bytes .now) ≡ rowsOf (a .run .b) (a .bytes .now) = ap (λ (k : ℕ). cut k (a .bytes .now)) size in
-    ap₂ (λ (z : Run) (t : List ℕ). outcome z 0 t)
+    left-as (c .answer3 .ensures) (l .loop .numbers)
+    ∙ ap₂ (λ (z : Run) (t : List ℕ). outcome z 0 t)
     (taking-run (some-bytes m) (l .loop .inv .1) end ∙ ap (afterFrom (a .run)) rows)
     (taking-numbers (some-bytes m) (l .loop .inv .1) end ∙ ap (numbersFrom (a .run)) rows)
     ∙ sym (bundle-given (a .run) (a .bytes .now) (a .numbers .now) (staged n) (n .before .before .before .before .before .before .if2 .left ∙ sym (counted m)))
@@ -291,11 +306,13 @@ take-rows-spec =
     Inv-loop
     μ-loop
     stage-of-requires
+    answer-requires
     returns
     response-length-requires
     sub-if2
     add-if2
     div-if2
+    answer-requires-2
     returns-2
     unblamed-requires
     none-requires
@@ -312,5 +329,6 @@ take-rows-spec =
     add-x
     loop-less
     loop-again
+    answer-requires-3
     same-length
     returns-3)
