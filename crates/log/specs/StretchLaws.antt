@@ -41,12 +41,12 @@ unfolding numbersFrom
 numbers-length r [] = refl
 numbers-length r (s ∷ l) = ap suc (numbers-length (stepOf r s .run) l)
 
-pub after-append : (r : Run) (l m : List (List ℕ)) → afterFrom r (l ++ m) ≡ afterFrom (afterFrom r l) m
+after-append : (r : Run) (l m : List (List ℕ)) → afterFrom r (l ++ m) ≡ afterFrom (afterFrom r l) m
 unfolding afterFrom
 after-append r [] m = refl
 after-append r (s ∷ l) m = after-append (stepOf r s .run) l m
 
-pub lines-append : (position : ℕ) (r : Run) (l m : List (List ℕ))
+lines-append : (position : ℕ) (r : Run) (l m : List (List ℕ))
     → refusalLines position r (l ++ m) ≡ numberLines position (numbersFrom r l) ++ refusalLines (position + length l) (afterFrom r l) m
 unfolding refusalLines numberLines numbersFrom afterFrom
 lines-append position r [] m = ap (λ (p : ℕ). refusalLines p r m) (sym (add-zero position))
@@ -205,7 +205,7 @@ module _ (b : ℕ) where
       ap (λ (n : ℕ). drop n s) more ∙ sym (drop-drop (k * size) size s)
 
   -- its rows are as many as it says, and no more than its bytes
-  pub stretch-rows : (f : ℕ) (s : List ℕ) → length (cut size (take (stretchOf f size s * size) s)) ≡ stretchOf f size s
+  stretch-rows : (f : ℕ) (s : List ℕ) → length (cut size (take (stretchOf f size s * size) s)) ≡ stretchOf f size s
   unfolding stretchOf
   stretch-rows zero s = ap (λ (n : ℕ). length (cut size (take n s))) (zero-mul size) ∙ ap length (cut-none size)
   stretch-rows (suc f) s =
@@ -213,7 +213,7 @@ module _ (b : ℕ) where
       (λ e. ap length (cut-row s (stretchOf f size (drop size s)) (row-some s e)) ∙ ap suc (stretch-rows f (drop size s)))
       (λ e. ap (λ (n : ℕ). length (cut size (take n s))) (zero-mul size) ∙ ap length (cut-none size))
 
-  pub stretch-bytes : (f : ℕ) (s : List ℕ) → stretchOf f size s ≤ length s
+  stretch-bytes : (f : ℕ) (s : List ℕ) → stretchOf f size s ≤ length s
   unfolding stretchOf responseLength
   stretch-bytes zero s = omega arith
   stretch-bytes (suc f) s =
@@ -221,7 +221,7 @@ module _ (b : ℕ) where
       (λ e. omega (arith, row-some s e, stretch-bytes f (drop size s), length-drop size s))
       (λ e. omega arith)
 
-  pub stretch-max : (f : ℕ) (s : List ℕ) → stretchOf f size s ≤ f
+  stretch-max : (f : ℕ) (s : List ℕ) → stretchOf f size s ≤ f
   unfolding stretchOf
   stretch-max zero s = omega arith
   stretch-max (suc f) s =

@@ -126,10 +126,6 @@ pub run-none : (r : Run) → runFrom r [] ≡ r
 unfolding runFrom afterFrom
 run-none r = rw (records-none r)
 
-pub run-next : (r : Run) (s : List ℕ) → 0 < length s → runFrom r s ≡ runFrom (stepOf r (nextRecord r s) .run) (nextRest r s)
-unfolding runFrom afterFrom
-run-next r s p = rw (records-next r s p)
-
 -- from the start of a log
 pub lines-start : (log : List ℕ) → refusalLines 1 fresh (recordsOf log) ≡ linesFrom 1 fresh log
 unfolding linesFrom recordsFrom recordsOf
