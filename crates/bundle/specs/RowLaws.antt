@@ -11,6 +11,7 @@ use Rattle.lists.specs.Tests.{pick, require, orNext}
 use Rattle.lists.specs.TestLaws.{pick-case, require-true, require-false, or-next, passed}
 use Rattle.sets.specs.Masks.{has}
 use Rattle.parameters.specs.Definitions.{quorum}
+use Rattle.parameters.specs.ParameterLaws.{batch-pos}
 use Rattle.records.specs.Bytes.{sender}
 use Rattle.records.specs.Tags.{Tag, SU, SX, DE, GO, VE, CH, CS, RE, unknown, tagOf}
 use Rattle.refusals.specs.Refusals.{responseRefusal}
@@ -22,9 +23,17 @@ use Rattle.response.specs.Definitions.{responseNumber}
 use Rattle.run.specs.declared.Run.{Run}
 use Rattle.run.specs.declared.Reply.{Reply}
 use Rattle.run.specs.Runs.{wellFormed, stageOf}
-use Rattle.run.specs.RunLaws.{stage-past}
+use Rattle.run.specs.RunLaws.{formed-of, fits-gone, stage-past, stage-live}
 use Rattle.run.specs.Steps.{withRow, finished, afterResponse, refused, answered, handled, stepOf, untakenBy, untaken}
 use Rattle.run.specs.StepLaws.{off-stage, at-stage}
+
+-- a run at stage 4 has signatures
+pub stage-batch : (r : Run) → stageOf r ≡ 4 → 0 < r .b
+stage-batch r e =
+    let live = stage-live r 4 e (omega arith) (omega arith) in
+    let formed = formed-of r (live .1) in
+    let gone = fits-gone _ _ _ _ _ (formed .batch-fits) (omega (arith, live .0)) in
+    omega (arith, batch-pos (formed .bounds) (gone .0), gone .1)
 
 -- ---- what is kept
 

@@ -1,7 +1,6 @@
 // A bundle of response rows (a sheaf, in document 02), given to a run in one call.
 ghost use mathlib.Core.Path.{_≡_};
 ghost use Rattle.bundle.specs.Bundles.{outcome, bundled};
-use combination::Combined;
 use run::Reply;
 use run::Run;
 
@@ -13,17 +12,18 @@ pub fn take_rows(run: Run, bytes: &[u8], numbers: &mut [u8]) -> Reply
     if run.stage_of() != 4 {
         return run.answer(11);
     }
-    let length = records::response_length(run.b);
+    let b = run.b;
+    let length = records::response_length(b);
     let count = numbers.len();
     if count != (bytes.len() + (length - 1)) / length {
         return run.answer(10);
     }
     let setup = run.setup;
+    let dealings = run.dealings;
     let complaints = run.complaints;
     let challenges = run.challenges.numbers;
-    let list = run.dealings.commitments;
-    let qual = complaints.unblamed(setup.n, run.dealings.dealers);
-    let mut combined = Combined::none(list);
+    let mut ready: u8 = 1;
+    let mut values = verification::qual_values(setup, dealings, complaints, 1);
     let mut next = run;
     let mut from: usize = 0;
     for x in 0..count {
@@ -37,9 +37,16 @@ pub fn take_rows(run: Run, bytes: &[u8], numbers: &mut [u8]) -> Reply
         // without a test first, which does not copy the run
         let mut number = next.untaken(row);
         if number == 0 {
-            let tested = verification::test_row(next.b, setup, qual, challenges, combined, row);
-            combined = tested.combined;
-            if tested.passed {
+            let holder = verification::holder_of(setup, row);
+            // the values for every u, once a row passes for the first
+            if ready < b {
+                if verification::test_row(ready, setup, holder, challenges, values, row) {
+                    let all = verification::qual_values(setup, dealings, complaints, b);
+                    values = all;
+                    ready = b;
+                }
+            }
+            if verification::test_row(ready, setup, holder, challenges, values, row) {
                 let taken = next.with_response(row);
                 next = taken;
             } else {

@@ -17,14 +17,14 @@ use Rattle.arrays.specs.Arrays.{commitmentIn, elements}
 use Rattle.combination.specs.declared.Combined.{Combined}
 use Rattle.combination.specs.Combination.{combinedValue, raised, powersAt}
 use Rattle.combination.specs.PowerLaws.{powers-none, powers-next, combined-powers}
-use Rattle.combination.specs.Tables.{withNext, combinedTo, CombinedFrom}
+use Rattle.combination.specs.Tables.{withNext, combinedTo}
 
 module _ (n qual quorum : ℕ) (list : List Element) where
   -- the values for u, u from 1 on
   abbrev pub valuesAt : ℕ → List Element
   valuesAt u = elements quorum (combinedValue n (has qual) (commitmentIn list) u)
 
-  ready-is : (k : ℕ) → combinedTo n qual quorum list k .ready ≡ k
+  pub ready-is : (k : ℕ) → combinedTo n qual quorum list k .ready ≡ k
   unfolding combinedTo withNext
   ready-is zero = refl
   ready-is (suc k) = ap (λ (x : ℕ). x + 1) (ready-is k) ∙ add-one k
@@ -34,14 +34,10 @@ module _ (n qual quorum : ℕ) (list : List Element) where
   powers-are zero = refl
   powers-are (suc k) = ap (raised n) (powers-are k)
 
-  -- no u yet, and one more, as a loop counts
-  pub none-is : {c : Combined} → c ≡ combinedTo n qual quorum list 0 → CombinedFrom n qual quorum list c
-  none-is {c} e = e ∙ ap (combinedTo n qual quorum list) (sym (ap (λ (x : Combined). x .ready) e ∙ ready-is 0))
-
-  pub next-is : {c next : Combined} → CombinedFrom n qual quorum list c → next ≡ withNext n qual quorum c → CombinedFrom n qual quorum list next
-  unfolding withNext combinedTo
-  next-is {c} {next} e f =
-      f ∙ ap (withNext n qual quorum) e ∙ ap (combinedTo n qual quorum list) (sym (ap (λ (x : Combined). x .ready) f ∙ add-one (c .ready)))
+  -- one more, as a loop counts
+  pub next-is : (k : ℕ) {c next : Combined} → c ≡ combinedTo n qual quorum list k → next ≡ withNext n qual quorum c → next ≡ combinedTo n qual quorum list (k + 1)
+  unfolding combinedTo
+  next-is k e f = f ∙ ap (withNext n qual quorum) e ∙ ap (combinedTo n qual quorum list) (sym (add-one k))
 
   values-length : (k : ℕ) → length (combinedTo n qual quorum list k .values) ≡ places
   unfolding combinedTo withNext
@@ -84,9 +80,9 @@ module _ (n qual quorum : ℕ) (list : List Element) where
           ∙ ap (λ (r : List Element). getD r v identity) (last-row ∙ ap valuesAt (ap (λ (x : ℕ). x + 1) (sym e)))
 
   -- the same of values at hand, read with any default
-  pub value-at : {c : Combined} → CombinedFrom n qual quorum list c → quorum ≤ stride → (u v : ℕ) (d : Element) → u < mostParties → u < c .ready → v < stride
-      → getD (c .values) (u * stride + v) d ≡ getD (valuesAt (u + 1)) v identity
-  value-at {c} e q u v d h l w =
-      getD-default (c .values) (u * stride + v) d identity (omega (arith, ap (λ (x : Combined). length (x .values)) e, values-length (c .ready)))
-      ∙ ap (λ (x : Combined). getD (x .values) (u * stride + v) identity) e
-      ∙ table-at (c .ready) q u v h l w
+  pub value-at : (k : ℕ) {values : List Element} → values ≡ combinedTo n qual quorum list k .values → quorum ≤ stride → (u v : ℕ) (d : Element) → u < mostParties → u < k → v < stride
+      → getD values (u * stride + v) d ≡ getD (valuesAt (u + 1)) v identity
+  value-at k {values} e q u v d h l w =
+      getD-default values (u * stride + v) d identity (omega (arith, ap length e, values-length k))
+      ∙ ap (λ (x : List Element). getD x (u * stride + v) identity) e
+      ∙ table-at k q u v h l w

@@ -1,5 +1,4 @@
 -- The committed values of a set of dealers, combined for every u up to one, in one flat array: those for u from (u - 1) × stride on.
-use mathlib.Core.Path.{_≡_}
 use Prim.Native.Nat.{ℕ, zero, suc, _+_, _*_}
 use mathlib.Core.List.{List}
 use lib.ListN.{getD}
@@ -25,7 +24,3 @@ withNext n qual quorum c =
 unfoldable pub combinedTo : ℕ → ℕ → ℕ → List Element → ℕ → Combined
 combinedTo n qual quorum list zero = record { ready = 0; powers = list; values = filled places identity }
 combinedTo n qual quorum list (suc k) = withNext n qual quorum (combinedTo n qual quorum list k)
-
--- for as many u as are ready
-abbrev pub CombinedFrom : ℕ → ℕ → ℕ → List Element → Combined → Type 0
-CombinedFrom n qual quorum list c = c ≡ combinedTo n qual quorum list (c .ready)

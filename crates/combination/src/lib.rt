@@ -1,6 +1,6 @@
 // The committed values of a set of dealers, combined for each u: one product over the set, raised step by step.
 ghost use mathlib.Core.Path.{_≡_};
-ghost use Prim.Native.Nat.{ℕ, _+_, _-_, _<_};
+ghost use Prim.Native.Nat.{ℕ, _+_, _-_, _≤_, _<_};
 ghost use Rattle.sets.specs.Masks.{has};
 ghost use Rattle.protocol.specs.Transcript.{coefficient};
 ghost use Rattle.arrays.specs.Arrays.{commitmentIn, elements};
@@ -90,7 +90,7 @@ pub struct Combined {
 
 impl Combined {
     // For no u yet.
-    pub fn none(list: [Element; PLACES]) -> Combined
+    fn none(list: [Element; PLACES]) -> Combined
         ensures { λ r. ⌜ ((n qual quorum : ℕ) → r ≡ combinedTo n qual quorum list 0) ⌝ }
     {
         Combined {
@@ -101,7 +101,7 @@ impl Combined {
     }
 
     // For one u more.
-    pub fn with_next(self, n: u8, qual: u64, quorum: u8) -> Combined
+    fn with_next(self, n: u8, qual: u64, quorum: u8) -> Combined
         requires { ⌜ self .ready < mostParties ⌝ }
         ensures { λ r. ⌜ r ≡ withNext n qual quorum self ⌝ }
     {
@@ -118,4 +118,18 @@ impl Combined {
             values: values,
         }
     }
+}
+
+// The values of a set of dealers, combined for u from 1 to count.
+pub fn table(list: [Element; PLACES], n: u8, qual: u64, quorum: u8, count: u8) -> [Element; PLACES]
+    requires { ⌜ count ≤ mostParties ⌝ }
+    ensures { λ r. ⌜ r ≡ combinedTo n qual quorum list count .values ⌝ }
+{
+    let mut combined = Combined::none(list);
+    for _ in 0..count {
+        let more = combined.with_next(n, qual, quorum);
+        combined = more;
+    }
+    let values = combined.values;
+    values
 }

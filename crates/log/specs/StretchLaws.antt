@@ -15,7 +15,6 @@ use borrow.Author.Tests.{eqb-true, ne-eqb, le-leb}
 use Rattle.lists.specs.Tests.{pick}
 use Rattle.lists.specs.TestLaws.{pick-case, no-both}
 use Rattle.parameters.specs.Definitions.{quorum}
-use Rattle.parameters.specs.ParameterLaws.{batch-pos}
 use Rattle.records.specs.Tags.{Tag, SU, SX, DE, GO, VE, CH, CS, RE, unknown, code, tagOf, responseLength}
 use Rattle.response.specs.Definitions.{responseNumber}
 use Rattle.stages.specs.Definitions.{handlerAt}
@@ -23,10 +22,11 @@ use Rattle.stages.specs.declared.Handler.the-variants.{TakeResponse}
 use Rattle.run.specs.declared.Run.{Run}
 use Rattle.run.specs.declared.Reply.{Reply}
 use Rattle.run.specs.Runs.{stageOf}
-use Rattle.run.specs.RunLaws.{formed-of, stage-live, fits-gone}
+use Rattle.run.specs.RunLaws.{stage-live}
 use Rattle.run.specs.Steps.{withRow, finished, afterResponse, handled, stepOf, afterFrom}
 use Rattle.run.specs.StepLaws.{step-tag, stage-case, answered-case}
 use Rattle.bundle.specs.Bundles.{rowsOf, numbersFrom}
+use Rattle.bundle.specs.RowLaws.{stage-batch}
 use Rattle.bundle.specs.CutLaws.{cut, cut-none, cut-next, row-is, row-rest, drop-take}
 use Rattle.log.specs.Cutting.{byBatch, lengthAt, lengthOf, whole}
 use Rattle.log.specs.Report.{refusalLine, refusalLines}
@@ -305,10 +305,7 @@ turn-record r s p =
 row-lasting : (r : Run) → stageOf r ≡ 4 → Lasting r (r .b)
 row-lasting r e =
     let live = stage-live r 4 e (omega arith) (omega arith) in
-    let formed = formed-of r (live .1) in
-    let gone = fits-gone _ _ _ _ _ (formed .batch-fits) (omega (arith, live .0)) in
-    let some = batch-pos (formed .bounds) (gone .0) in
-    (λ z. omega (arith, live .0, z), refl, λ z. omega (arith, some, gone .1, z))
+    (λ z. omega (arith, live .0, z), refl, λ z. omega (arith, stage-batch r e, z))
 
 module _ (r : Run) (s : List ℕ) (f : ℕ) where
   abbrev rows : ℕ

@@ -173,7 +173,7 @@ fn put_page(log: &[u8], out: &mut [u8]) -> usize
             numbers[0] = number;
         } else {
             let rows = rows_ahead(run, rest);
-            if 0 < rows {
+            if 1 < rows {
                 count = rows;
                 size = rows_length(run.b, rows, rest.len());
                 let reply = bundle::take_rows(run, &rest[..size], &mut numbers[..rows]);

@@ -59,28 +59,13 @@ module _ (setup : Setup) (d : Dealings) (c : Complaints) (e : Challenges) (bound
 
 module _ (setup : Setup) (d : Dealings) (c : Complaints) (e : Challenges) (bounds : Bounds (setup .n) (setup .t) (setup .a)) (s : List ℕ) where
   -- the numbers of a record fit where they pass for its sender
-  row-is : (n : ℕ)
+  pub row-is : (n : ℕ)
       → allTo n (fits setup (d .commitments) (e .numbers) (unblamed (setup .n) c (d .dealers)) (quorum (setup .t) (setup .a)) (keyAt (setup .t) (setup .a) (keyIn setup) (party (sender s)))
       (weightsOf (listed (setup .a) (λ v. slot (v + 1))) (party (sender s))) (weightsOf (listed (quorum (setup .t) (setup .a)) (committedPoint (setup .a))) (party (sender s))) s)
       ≡ allTo n (λ i. passes (transcript setup d c e) (i + 1) (sender s) (scalar (word s 4 i)))
   unfolding fits passes
   row-is n =
       all-cong n _ _ (λ i l. ap (λ (v : Element). sameElement (raise generator (scalar (word s 4 i))) v) (wanted-is setup d c e bounds (party (sender s)) (i + 1)))
-
-  -- the same with what the calls answer
-  pub row-tested : (b : ℕ) {j qual need : ℕ} {x : Scalar} {key : Element} {slotPoints slotWeights points weights : Row}
-      → j ≡ sender s
-      → x ≡ party j
-      → qual ≡ unblamed (setup .n) c (d .dealers)
-      → need ≡ quorum (setup .t) (setup .a)
-      → key ≡ keyAt (setup .t) (setup .a) (keyIn setup) x
-      → slotPoints ≡ listed (setup .a) (λ v. slot (v + 1))
-      → slotWeights ≡ weightsOf slotPoints x
-      → points ≡ listed need (committedPoint (setup .a))
-      → weights ≡ weightsOf points x
-      → allTo b (fits setup (d .commitments) (e .numbers) qual need key slotWeights weights s)
-      ≡ allTo b (λ i. passes (transcript setup d c e) (i + 1) (sender s) (scalar (word s 4 i)))
-  row-tested b ej ex eq en ek es esw ep ew = rw (ek, esw, ew, es, ep, ex, ej, eq, en) (row-is b)
 
 -- the weights are as many as the points
 pub all-weights : (m : ℕ) (pt : ℕ → Scalar) (x : Scalar) {points weights : Row} → m ≤ 64 → points ≡ listed m pt → weights ≡ weightsOf points x → first m weights ≡ weights

@@ -1,25 +1,38 @@
--- What the test of a row answers: whether it passes, and the combined values that it was tested against.
+-- The test of a row against QUAL's committed values, which are combined beforehand for the numbers that are tested.
 use mathlib.Core.Path.{_≡_}
+use mathlib.Core.Bool.{Bool}
 use mathlib.Core.List.{List}
-use Prim.Native.Nat.{ℕ}
+use Prim.Native.Nat.{ℕ, _+_}
 use Rattle.field.specs.declared.Scalar.{Scalar}
+use Rattle.field.specs.declared.Element.{Element}
+use Rattle.interpolation.specs.Definitions.{party, slot, committedPoint}
+use Rattle.rows.specs.Definitions.{listed, weightsOf}
 use Rattle.parameters.specs.Definitions.{quorum}
-use Rattle.combination.specs.declared.Combined.{Combined}
-use Rattle.combination.specs.Tables.{CombinedFrom}
+use Rattle.protocol.specs.Transcript.{keyAt}
+use Rattle.combination.specs.Tables.{combinedTo}
 use Rattle.dealing.specs.declared.Setup.{Setup}
 use Rattle.dealing.specs.declared.Dealings.{Dealings}
+use Rattle.dealing.specs.Definitions.{keyIn}
 use Rattle.complaint.specs.declared.Complaints.{Complaints}
 use Rattle.complaint.specs.Definitions.{unblamed}
 use Rattle.challenge.specs.declared.Challenges.{Challenges}
-use Rattle.verification.specs.declared.Tested.{Tested}
+use Rattle.verification.specs.declared.Holder.{Holder}
 use Rattle.verification.specs.Definitions.{rowPasses}
 
--- with QUAL's committed values, combined for whatever u are ready: the row passes by the definition, and the values are still QUAL's
-abbrev pub TestedRow : ℕ → Setup → ℕ → List Scalar → Combined → List ℕ → Tested → Type 0
-TestedRow b setup qual numbers combined s r =
-    let need = quorum (setup .t) (setup .a) in
-    (d : Dealings) (c : Complaints) (e : Challenges)
-    → qual ≡ unblamed (setup .n) c (d .dealers)
-    → numbers ≡ e .numbers
-    → CombinedFrom (setup .n) qual need (d .commitments) combined
-    → (r .passed ≡ rowPasses b setup d c e s) × CombinedFrom (setup .n) qual need (d .commitments) (r .combined)
+-- what depends on the holder alone: S_j, and the weights at j of the slots and of the committed points
+unfoldable pub holderOf : Setup → ℕ → Holder
+holderOf setup j =
+    record {
+      key = keyAt (setup .t) (setup .a) (keyIn setup) (party j);
+      slots = weightsOf (listed (setup .a) (λ v. slot (v + 1))) (party j);
+      points = weightsOf (listed (quorum (setup .t) (setup .a)) (committedPoint (setup .a))) (party j);
+    }
+
+-- the values of QUAL, combined for u from 1 to k
+abbrev pub qualValues : Setup → Dealings → Complaints → ℕ → List Element
+qualValues setup d c k = combinedTo (setup .n) (unblamed (setup .n) c (d .dealers)) (quorum (setup .t) (setup .a)) (d .commitments) k .values
+
+-- with them, and with the run's challenges, the first k numbers pass by the definition
+abbrev pub TestedRow : ℕ → Setup → List Scalar → List Element → List ℕ → Bool → Type 0
+TestedRow k setup numbers values s r =
+    (d : Dealings) (c : Complaints) (e : Challenges) → numbers ≡ e .numbers → values ≡ qualValues setup d c k → r ≡ rowPasses k setup d c e s

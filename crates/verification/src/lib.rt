@@ -6,57 +6,87 @@ ghost use Rattle.parameters.specs.Definitions.{inBounds};
 ghost use Rattle.protocol.specs.Transcript.{combinedAt};
 ghost use Rattle.challenge.specs.declared.Challenges.{Challenges};
 ghost use Rattle.verification.specs.Definitions.{transcript, rowPasses};
-ghost use Rattle.verification.specs.Tests.{TestedRow};
+ghost use Rattle.records.specs.Bytes.{sender};
+ghost use Rattle.verification.specs.Tests.{holderOf, qualValues, TestedRow};
 use chains::Chain;
 use challenge::Challenges;
-use combination::Combined;
 use complaint::Complaints;
 use dealing::Dealings;
 use dealing::Setup;
 use field::Element;
 use field::Scalar;
 use parameters::CELLS;
+use parameters::PLACES;
 use parameters::STRIDE;
+use rows::Row;
 
-// Whether a row passes, and QUAL's committed values, combined for as many u as were asked for.
-pub struct Tested {
-    pub passed: bool,
-    pub combined: Combined,
+// What the numbers of a row are tested with that depends on its holder j alone: S_j, and the weights at j of the slots and of the committed points.
+pub struct Holder {
+    pub key: Element,
+    pub slots: Row,
+    pub points: Row,
 }
 
-// Tests the b response numbers of a row against QUAL's committed values, which are combined for a u where they are not yet. The first that fails ends
-// the row.
-pub fn test_row(
-    b: u8,
-    setup: Setup,
-    qual: u64,
-    numbers: [Scalar; CELLS],
-    combined: Combined,
-    bytes: &[u8],
-) -> Tested
-    requires { ⌜ (inBounds (setup .n) (setup .t) (setup .a) ≡ true) × (b ≤ setup .n) ⌝ }
-    ensures { λ r. ⌜ TestedRow b setup qual numbers combined (now (bytes .entry)) r ⌝ }
+// That of a row's sender.
+pub fn holder_of(setup: Setup, bytes: &[u8]) -> Holder
+    requires { ⌜ inBounds (setup .n) (setup .t) (setup .a) ≡ true ⌝ }
+    ensures { λ r. ⌜ r ≡ holderOf setup (sender (now (bytes .entry))) ⌝ }
 {
     let quorum = parameters::quorum(setup.t, setup.a) as u8;
     let x = points::point(records::byte(bytes, 2), 0);
     let key = setup.key_at(x);
-    let at_slots = points::slot_points(setup.a).weights(x);
-    let at_points = points::committed_points(setup.a, quorum).weights(x);
-    let mut known = combined;
+    let slots = points::slot_points(setup.a).weights(x);
+    let points = points::committed_points(setup.a, quorum).weights(x);
+    Holder {
+        key: key,
+        slots: slots,
+        points: points,
+    }
+}
+
+// QUAL's committed values, combined for u from 1 to count.
+pub fn qual_values(
+    setup: Setup,
+    dealings: Dealings,
+    complaints: Complaints,
+    count: u8,
+) -> [Element; PLACES]
+    requires { ⌜ (inBounds (setup .n) (setup .t) (setup .a) ≡ true) × (count ≤ setup .n) ⌝ }
+    ensures { λ r. ⌜ r ≡ qualValues setup dealings complaints count ⌝ }
+{
+    let n = setup.n;
+    let list = dealings.commitments;
+    let quorum = parameters::quorum(setup.t, setup.a) as u8;
+    let qual = complaints.unblamed(n, dealings.dealers);
+    combination::table(list, n, qual, quorum, count)
+}
+
+// Whether the first numbers of a row pass, as many as QUAL's committed values are combined for. The first that fails ends the row.
+pub fn test_row(
+    count: u8,
+    setup: Setup,
+    holder: Holder,
+    numbers: [Scalar; CELLS],
+    values: [Element; PLACES],
+    bytes: &[u8],
+) -> bool
+    requires { ⌜ (inBounds (setup .n) (setup .t) (setup .a) ≡ true) × (count ≤ setup .n) × (holder ≡ holderOf setup (sender (now bytes))) ⌝ }
+    ensures { λ r. ⌜ TestedRow count setup numbers values (now (bytes .entry)) r ⌝ }
+{
+    let quorum = parameters::quorum(setup.t, setup.a) as u8;
+    let key = holder.key;
+    let slots = holder.slots;
+    let points = holder.points;
     let mut passed = true;
-    'row: for u in 0..b {
-        if known.ready <= u {
-            let more = known.with_next(setup.n, qual, quorum);
-            known = more;
-        }
+    'row: for u in 0..count {
         let mut chain = Chain::none();
         for v in 0..quorum {
-            let value = known.values[u as usize * STRIDE + v as usize];
-            let weight = at_points.at[v as usize];
+            let value = values[u as usize * STRIDE + v as usize];
+            let weight = points.at[v as usize];
             chain = chain.with(value, weight);
         }
         let image = chain.value();
-        let challenge = at_slots.sum(arrays::challenge_values(numbers, setup.a, u + 1));
+        let challenge = slots.sum(arrays::challenge_values(numbers, setup.a, u + 1));
         let wanted = image.mul(key.pow(challenge));
         let sent = Element::GENERATOR.pow(Scalar(records::word(bytes, 4, u as u16)));
         if !sent.same(wanted) {
@@ -64,13 +94,10 @@ pub fn test_row(
             break 'row;
         }
     }
-    Tested {
-        passed: passed,
-        combined: known,
-    }
+    passed
 }
 
-// Whether each of the b response numbers of a row passes.
+// Whether each of the b response numbers of a row passes. The committed values are combined for every u only where the first number passes.
 pub fn row_passes(
     b: u8,
     setup: Setup,
@@ -83,10 +110,14 @@ pub fn row_passes(
     ensures { λ r. ⌜ r ≡ rowPasses b setup dealings complaints challenges (now (bytes .entry)) ⌝ }
 {
     let numbers = challenges.numbers;
-    let list = dealings.commitments;
-    let qual = complaints.unblamed(setup.n, dealings.dealers);
-    let none = Combined::none(list);
-    test_row(b, setup, qual, numbers, none, bytes).passed
+    let holder = holder_of(setup, bytes);
+    let few: u8 = if 0 < b { 1 } else { 0 };
+    let first = qual_values(setup, dealings, complaints, few);
+    if !test_row(few, setup, holder, numbers, first, bytes) {
+        return false;
+    }
+    let all = qual_values(setup, dealings, complaints, b);
+    test_row(b, setup, holder, numbers, all, bytes)
 }
 
 // R(u,k) before the shift at the point 1-k, and C_u(j) at j, whatever the challenges.
