@@ -8,19 +8,13 @@ use Rattle.field.specs.declared.Element.{Element}
 use Rattle.field.specs.Definitions.{identity}
 use Rattle.parameters.specs.Definitions.{stride, places}
 use Rattle.arrays.specs.Arrays.{commitmentIn, elements}
-use Rattle.combination.specs.declared.Combined.{Combined}
-use Rattle.combination.specs.Combination.{combinedValue, raised}
+use Rattle.combination.specs.Combination.{combinedValue}
 
--- for one u more: the values for the u whose powers are at hand, and the powers for the u after it
-unfoldable pub withNext : ℕ → ℕ → ℕ → Combined → Combined
-withNext n qual quorum c =
-    record {
-      ready = c .ready + 1;
-      powers = raised n (c .powers);
-      values = stored (c .values) (c .ready * stride) stride (λ v. getD (elements quorum (combinedValue n (has qual) (commitmentIn (c .powers)) 1)) v identity);
-    }
+-- the values for u, of the parties of a mask
+abbrev pub valuesAt : ℕ → ℕ → ℕ → List Element → ℕ → List Element
+valuesAt n qual quorum list u = elements quorum (combinedValue n (has qual) (commitmentIn list) u)
 
--- for u from 1 to k
-unfoldable pub combinedTo : ℕ → ℕ → ℕ → List Element → ℕ → Combined
-combinedTo n qual quorum list zero = record { ready = 0; powers = list; values = filled places identity }
-combinedTo n qual quorum list (suc k) = withNext n qual quorum (combinedTo n qual quorum list k)
+-- those for u from 1 to k
+unfoldable pub tableTo : ℕ → ℕ → ℕ → List Element → ℕ → List Element
+tableTo n qual quorum list zero = filled places identity
+tableTo n qual quorum list (suc k) = stored (tableTo n qual quorum list k) (k * stride) stride (λ v. getD (valuesAt n qual quorum list (k + 1)) v identity)

@@ -1,12 +1,12 @@
 // The committed values of a set of dealers, combined for each u: one product over the set, raised step by step.
 ghost use mathlib.Core.Path.{_≡_};
-ghost use Prim.Native.Nat.{ℕ, _+_, _-_, _≤_, _<_};
+ghost use Prim.Native.Nat.{_+_, _-_, _≤_};
 ghost use Rattle.sets.specs.Masks.{has};
 ghost use Rattle.protocol.specs.Transcript.{coefficient};
 ghost use Rattle.arrays.specs.Arrays.{commitmentIn, elements};
 ghost use Rattle.parameters.specs.Definitions.{mostParties};
 ghost use Rattle.combination.specs.Combination.{combinedValue, raised, powersAt};
-ghost use Rattle.combination.specs.Tables.{combinedTo, withNext};
+ghost use Rattle.combination.specs.Tables.{tableTo};
 use field::Element;
 use field::Scalar;
 use parameters::MOST_PARTIES;
@@ -81,55 +81,23 @@ pub fn combined_values(powers: [Element; PLACES], qual: u64, n: u8, quorum: u8) 
     values
 }
 
-// The committed values of a set of dealers, combined for u from 1 to `ready`: those for u from (u - 1) × STRIDE on. Beside them the powers for the next u.
-pub struct Combined {
-    pub ready: u8,
-    pub powers: [Element; PLACES],
-    pub values: [Element; PLACES],
-}
-
-impl Combined {
-    // For no u yet.
-    fn none(list: [Element; PLACES]) -> Combined
-        ensures { λ r. ⌜ ((n qual quorum : ℕ) → r ≡ combinedTo n qual quorum list 0) ⌝ }
-    {
-        Combined {
-            ready: 0,
-            powers: list,
-            values: [Element::ONE; PLACES],
+// The values of a set of dealers, combined for u from 1 to count: those for u from (u - 1) × STRIDE on.
+pub fn table(list: [Element; PLACES], n: u8, qual: u64, quorum: u8, count: u8) -> [Element; PLACES]
+    requires { ⌜ (count ≤ mostParties) × (quorum ≤ mostParties) ⌝ }
+    ensures { λ r. ⌜ r ≡ tableTo n qual quorum list count ⌝ }
+{
+    let mut powers = list;
+    let mut values = [Element::ONE; PLACES];
+    for u in 0..count {
+        if 0 < u {
+            let more = raised(powers, n);
+            powers = more;
         }
-    }
-
-    // For one u more.
-    fn with_next(self, n: u8, qual: u64, quorum: u8) -> Combined
-        requires { ⌜ self .ready < mostParties ⌝ }
-        ensures { λ r. ⌜ r ≡ withNext n qual quorum self ⌝ }
-    {
-        let powers = self.powers;
         let row = combined_values(powers, qual, n, quorum);
-        let first = self.ready as usize * STRIDE;
-        let mut values = self.values;
+        let first = u as usize * STRIDE;
         for v in 0..STRIDE {
             values[first + v] = row[v];
         }
-        Combined {
-            ready: self.ready + 1,
-            powers: raised(powers, n),
-            values: values,
-        }
     }
-}
-
-// The values of a set of dealers, combined for u from 1 to count.
-pub fn table(list: [Element; PLACES], n: u8, qual: u64, quorum: u8, count: u8) -> [Element; PLACES]
-    requires { ⌜ count ≤ mostParties ⌝ }
-    ensures { λ r. ⌜ r ≡ combinedTo n qual quorum list count .values ⌝ }
-{
-    let mut combined = Combined::none(list);
-    for _ in 0..count {
-        let more = combined.with_next(n, qual, quorum);
-        combined = more;
-    }
-    let values = combined.values;
     values
 }

@@ -9,7 +9,7 @@ use Rattle.interpolation.specs.Definitions.{party, slot, committedPoint}
 use Rattle.rows.specs.Definitions.{listed, weightsOf}
 use Rattle.parameters.specs.Definitions.{quorum}
 use Rattle.protocol.specs.Transcript.{keyAt}
-use Rattle.combination.specs.Tables.{combinedTo}
+use Rattle.combination.specs.Tables.{tableTo}
 use Rattle.dealing.specs.declared.Setup.{Setup}
 use Rattle.dealing.specs.declared.Dealings.{Dealings}
 use Rattle.dealing.specs.Definitions.{keyIn}
@@ -30,7 +30,7 @@ holderOf setup j =
 
 -- the values of QUAL, combined for u from 1 to k
 abbrev pub qualValues : Setup → Dealings → Complaints → ℕ → List Element
-qualValues setup d c k = combinedTo (setup .n) (unblamed (setup .n) c (d .dealers)) (quorum (setup .t) (setup .a)) (d .commitments) k .values
+qualValues setup d c k = tableTo (setup .n) (unblamed (setup .n) c (d .dealers)) (quorum (setup .t) (setup .a)) (d .commitments) k
 
 -- with them, and with the run's challenges, the first k numbers pass by the definition
 abbrev pub TestedRow : ℕ → Setup → List Scalar → List Element → List ℕ → Bool → Type 0

@@ -54,11 +54,10 @@ pub fn qual_values(
     requires { ⌜ (inBounds (setup .n) (setup .t) (setup .a) ≡ true) × (count ≤ setup .n) ⌝ }
     ensures { λ r. ⌜ r ≡ qualValues setup dealings complaints count ⌝ }
 {
-    let n = setup.n;
     let list = dealings.commitments;
     let quorum = parameters::quorum(setup.t, setup.a) as u8;
-    let qual = complaints.unblamed(n, dealings.dealers);
-    combination::table(list, n, qual, quorum, count)
+    let qual = complaints.unblamed(setup.n, dealings.dealers);
+    combination::table(list, setup.n, qual, quorum, count)
 }
 
 // Whether the first numbers of a row pass, as many as QUAL's committed values are combined for. The first that fails ends the row.

@@ -26,8 +26,8 @@ use Rattle.sets.specs.Masks.{has}
 use Rattle.arrays.specs.Arrays.{commitmentIn}
 use Rattle.arrays.specs.ArrayLaws.{elements-length}
 use Rattle.combination.specs.Combination.{combinedValue}
-use Rattle.combination.specs.Tables.{combinedTo}
-use Rattle.combination.specs.TableLaws.{valuesAt, value-at}
+use Rattle.combination.specs.Tables.{valuesAt, tableTo}
+use Rattle.combination.specs.TableLaws.{value-at}
 use Rattle.dealing.specs.declared.Dealings.{Dealings}
 use Rattle.complaint.specs.declared.Complaints.{Complaints}
 use Rattle.complaint.specs.Definitions.{unblamed}
@@ -42,7 +42,7 @@ use Rattle.verification.proofs.test_row.Tie as tie
 abbrev Inv-loop : tie.InvT-loop
 Inv-loop count setup numbers bytes values quorum key slots points passed u chain₀ v₀ chain v =
     (v ≤ quorum)
-    × ((qual : ℕ) (list : List Element) → values ≡ combinedTo (setup .n) qual quorum list count .values
+    × ((qual : ℕ) (list : List Element) → values ≡ tableTo (setup .n) qual quorum list count
     → chainValue chain ≡ productOf (first v points) (valuesAt (setup .n) qual quorum list (u + 1)))
 
 abbrev μ-loop : tie.MeasureT-loop
@@ -52,7 +52,7 @@ abbrev μ-loop : tie.MeasureT-loop
 abbrev Inv-row : tie.InvT-row
 Inv-row count setup numbers bytes values quorum key slots points passed₀ u₀ passed u =
     (u ≤ count) × (count ≤ mostParties) × (quorum ≤ mostParties) × (passed ≡ true)
-    × ((qual : ℕ) (list : List Element) → values ≡ combinedTo (setup .n) qual quorum list count .values
+    × ((qual : ℕ) (list : List Element) → values ≡ tableTo (setup .n) qual quorum list count
     → allTo u (fits setup list numbers qual quorum key slots points bytes) ≡ true)
 
 abbrev μ-row : tie.MeasureT-row
@@ -75,10 +75,10 @@ fits-of p qual list =
 -- the values that the contract speaks of are those of the loop
 handed : (p : tie.After-points Inv-loop μ-loop Inv-row μ-row) (qual : ℕ) (list : List Element) →
     let a = start p .args in
-    a .t5 ≡ combinedTo (a .setup .n) qual (quorum (a .setup .t) (a .setup .a)) list (a .count) .values → a .t5 ≡ combinedTo (a .setup .n) qual (need p .quorum .result) list (a .count) .values
+    a .t5 ≡ tableTo (a .setup .n) qual (quorum (a .setup .t) (a .setup .a)) list (a .count) → a .t5 ≡ tableTo (a .setup .n) qual (need p .quorum .result) list (a .count)
 handed p qual list h =
     let a = start p .args in
-    h ∙ ap (λ (m : ℕ). combinedTo (a .setup .n) qual m list (a .count) .values) (sym (need p .quorum .ensures))
+    h ∙ ap (λ (m : ℕ). tableTo (a .setup .n) qual m list (a .count)) (sym (need p .quorum .ensures))
 
 -- the test is that of the definition
 tested : (p : tie.After-points Inv-loop μ-loop Inv-row μ-row) (d : Dealings) (c : Complaints) (e : Challenges) →
@@ -118,7 +118,7 @@ row c = turn c .before .before .before
 compared : (c : tie.After-same Inv-loop μ-loop Inv-row μ-row) (qual : ℕ) (list : List Element) →
     let r = row c .before in
     let a = start (r .before) .args in
-    a .t5 ≡ combinedTo (a .setup .n) qual (need (r .before) .quorum .result) list (a .count) .values → c .same .result ≡ fits-of (r .before) qual list (r .row .u)
+    a .t5 ≡ tableTo (a .setup .n) qual (need (r .before) .quorum .result) list (a .count) → c .same .result ≡ fits-of (r .before) qual list (r .row .u)
 unfolding fits wanted
 compared c qual list h =
     let m = c .before .before .before in
@@ -217,7 +217,7 @@ loop-again c =
       more,
       λ qual list h.
           let values = valuesAt (a .setup .n) qual (need p .quorum .result) list (u + 1) in
-          let value = value-at (a .setup .n) qual (need p .quorum .result) list (a .count) h few u v _ within (i .row-test .taken) point in
+          let value = value-at (a .setup .n) qual (need p .quorum .result) list (a .count) h u v _ within (i .row-test .taken) point in
           c .with .ensures
           ∙ ap₂ product (l .loop .inv .1 qual list h) (ap (λ (x : Element). raise x (getD (a .holder .points .at) v (scalar 0))) value)
           ∙ sym (product-next (a .holder .points) values v identity point (omega (arith, point, elements-length (need p .quorum .result) (combinedValue (a .setup .n) (has qual) (commitmentIn list) (u + 1))))),
