@@ -38,12 +38,16 @@ returns c =
     sym (fails-stays _ (j .if1 .few) (a .b) (few-is j) (sym first ∙ not-true _ (c .if2 .taken)))
 
 qual-values-requires-2 : tie.Need-qual-values-requires-2
-qual-values-requires-2 c κs = search needs
+qual-values-requires-2 c κs =
+    let j = c .before .before .before in
+    let s = start (j .before) in
+    (s .pre .0, omega (arith, few-is j, s .pre .1))
 
 test-row-requires-2 : tie.Need-test-row-requires-2
 test-row-requires-2 c κs =
-    let h = c .before .before .before .before .before in
-    (start h .pre .0, start h .pre .1, h .holder-of .ensures)
+    let j = c .before .before .before .before in
+    let s = start (j .before) in
+    (s .pre .0, omega (arith, few-is j, s .pre .1), j .before .holder-of .ensures)
 
 returns-2 : tie.Need-returns-2
 returns-2 c =
