@@ -1,17 +1,17 @@
 -- What stands while the rows of a bundle are given to a run: the numbers of the rows passed are in the list, and the run is theirs. Assumes nothing.
-use mathlib.Core.Path.{_≡_, refl, sym, ap, ap₂, subst⁻¹, _∙_}
+use mathlib.Core.Path.{_≡_, refl, sym, ap, ap₂, _∙_}
 use mathlib.Core.List.{List, [], _∷_, _++_, append-assoc, append-nil}
 use Prim.Native.Nat.{ℕ, _+_, _-_, _/_, _≤_, _<_}
 use native.Mathlib.Numerals.{add-one}
 use native.Mathlib.Omega.{arith}
 use native.Mathlib.Decide.{decLt}
 use lib.ListN.{length, take, drop, set, length-set, length-drop, drop-of-length-le}
-use lib.Seq.{take-all, take-suc-set, drop-drop}
+use lib.Seq.{take-all, take-suc-set}
 use Rattle.run.specs.declared.Run.{Run}
 use Rattle.run.specs.declared.Reply.{Reply}
 use Rattle.run.specs.Runs.{stageOf}
 use Rattle.run.specs.Steps.{stepOf, afterFrom}
-use Rattle.bundle.specs.Bundles.{cutEvery, numbersFrom}
+use Rattle.bundle.specs.Bundles.{numbersFrom}
 use Rattle.bundle.specs.CutLaws.{cut, cut-none, cut-next, cut-count, rowLength, rest-is}
 use Rattle.bundle.specs.RowLaws.{Kept, kept-start}
 

@@ -7,25 +7,37 @@ use Prim.Native.Nat.{ℕ, _+_, _≤_, _<_}
 use native.Mathlib.Omega.{arith}
 use native.Mathlib.Decide.{ℕ-discrete}
 use lib.Dec.{eqb}
+use borrow.Author.Tests.{ne-eqb}
 use Rattle.lists.specs.Tests.{pick, require, orNext}
 use Rattle.lists.specs.TestLaws.{pick-case, require-true, require-false, or-next, passed}
 use Rattle.sets.specs.Masks.{has}
 use Rattle.parameters.specs.Definitions.{quorum}
 use Rattle.parameters.specs.ParameterLaws.{batch-pos}
 use Rattle.records.specs.Bytes.{sender}
-use Rattle.records.specs.Tags.{Tag, SU, SX, DE, GO, VE, CH, CS, RE, unknown, tagOf}
+use Rattle.records.specs.Tags.{Tag, SU, SX, DE, GO, VE, CH, CS, RE, unknown, code, tagOf}
 use Rattle.refusals.specs.Refusals.{responseRefusal}
 use Rattle.stages.specs.declared.Handler.{Handler}
-use Rattle.stages.specs.declared.Handler.the-variants.{TakeSetup, TakeWaiting, TakeDealing, TakeGo, TakeComplaint, TakeChallenges, TakeShifted, TakeResponse, Refuse}
+use Rattle.stages.specs.declared.Handler.the-variants.{TakeSetup, TakeWaiting, TakeDealing, TakeGo, TakeComplaint, TakeChallenges, TakeShifted, TakeResponse}
 use Rattle.stages.specs.Definitions.{takenAt, atStage, handlerAt}
 use Rattle.verification.specs.Definitions.{rowPasses}
 use Rattle.response.specs.Definitions.{responseNumber}
 use Rattle.run.specs.declared.Run.{Run}
-use Rattle.run.specs.declared.Reply.{Reply}
 use Rattle.run.specs.Runs.{wellFormed, stageOf}
 use Rattle.run.specs.RunLaws.{formed-of, fits-gone, stage-past, stage-live}
 use Rattle.run.specs.Steps.{withRow, finished, afterResponse, refused, answered, handled, stepOf, untakenBy, untaken}
 use Rattle.run.specs.StepLaws.{off-stage, at-stage}
+
+-- the tag of a row, by its code
+pub row-code : (g : Tag) → code g ≡ 5 → g ≡ RE
+row-code SU f = absurd (omega (arith, f))
+row-code SX f = absurd (omega (arith, f))
+row-code DE f = absurd (omega (arith, f))
+row-code GO f = absurd (omega (arith, f))
+row-code VE f = absurd (omega (arith, f))
+row-code CH f = absurd (omega (arith, f))
+row-code CS f = absurd (omega (arith, f))
+row-code RE f = refl
+row-code unknown f = absurd (omega (arith, f))
 
 -- a run at stage 4 has signatures
 pub stage-batch : (r : Run) → stageOf r ≡ 4 → 0 < r .b
@@ -81,6 +93,87 @@ module _ {r next : Run} (k : Kept r next) (s : List ℕ) where
             late = stage-least z l;
           }
 
+-- ---- what refuses a row without a test of its numbers
+
+module _ (r : Run) (s : List ℕ) where
+  -- by its tag
+  pub by-unknown : code (tagOf s) ≡ 0 → untaken r s ≡ 1
+  unfolding untaken handlerAt untakenBy
+  by-unknown = go (tagOf s)
+    where
+      go : (g : Tag) → code g ≡ 0 → untakenBy (handlerAt g (stageOf r)) r s ≡ 1
+      go SU e = absurd (omega (arith, e))
+      go SX e = absurd (omega (arith, e))
+      go DE e = absurd (omega (arith, e))
+      go GO e = absurd (omega (arith, e))
+      go VE e = absurd (omega (arith, e))
+      go CH e = absurd (omega (arith, e))
+      go CS e = absurd (omega (arith, e))
+      go RE e = absurd (omega (arith, e))
+      go unknown e = refl
+
+  -- at another stage than the one that takes a tag
+  elsewhere : (g : Tag) (h : Handler) → (stageOf r ≡ takenAt g → ⊥) → untakenBy (atStage g (stageOf r) h) r s ≡ 11
+  unfolding untakenBy
+  elsewhere g h n = ap (λ (x : Handler). untakenBy x r s) (off-stage g r h n)
+
+  pub by-other : 4 ≤ stageOf r → (code (tagOf s) ≡ 0 → ⊥) → (code (tagOf s) ≡ 5 → ⊥) → untaken r s ≡ 11
+  unfolding untaken handlerAt takenAt
+  by-other l = go (tagOf s)
+    where
+      go : (g : Tag) → (code g ≡ 0 → ⊥) → (code g ≡ 5 → ⊥) → untakenBy (handlerAt g (stageOf r)) r s ≡ 11
+      go SU n m = elsewhere SU TakeSetup (λ z. omega arith)
+      go SX n m = elsewhere SX TakeWaiting (λ z. omega arith)
+      go DE n m = elsewhere DE TakeDealing (λ z. omega arith)
+      go GO n m = elsewhere GO TakeGo (λ z. omega arith)
+      go VE n m = elsewhere VE TakeComplaint (λ z. omega arith)
+      go CH n m = elsewhere CH TakeChallenges (λ z. omega arith)
+      go CS n m = elsewhere CS TakeShifted (λ z. omega arith)
+      go RE n m = absurd (m refl)
+      go unknown n m = absurd (n refl)
+
+  -- an RE by the stage
+  row-tag : code (tagOf s) ≡ 5 → tagOf s ≡ RE
+  row-tag = row-code (tagOf s)
+
+  pub by-stage : code (tagOf s) ≡ 5 → (stageOf r ≡ 4 → ⊥) → untaken r s ≡ 11
+  unfolding untaken handlerAt takenAt
+  by-stage e n = ap (λ (g : Tag). untakenBy (handlerAt g (stageOf r)) r s) (row-tag e) ∙ elsewhere RE TakeResponse n
+
+  -- and at stage 4 by what it holds
+  pub by-row : code (tagOf s) ≡ 5 → stageOf r ≡ 4 → untaken r s ≡ untakenBy TakeResponse r s
+  unfolding untaken handlerAt takenAt
+  by-row e z = ap (λ (g : Tag). untakenBy (handlerAt g (stageOf r)) r s) (row-tag e) ∙ ap (λ (h : Handler). untakenBy h r s) (at-stage RE r TakeResponse z)
+
+-- the three that are asked before the test, as the code asks them
+module _ (k : ℕ) (a c : Bool) where
+  abbrev before-test : ℕ
+  before-test = orNext (orNext k (require a 12 0)) (require c 14 0)
+
+  pub stops-first : (k ≡ 0 → ⊥) → before-test ≡ k
+  unfolding orNext
+  stops-first n =
+      let first : orNext k (require a 12 0) ≡ k = ap (λ (b : Bool). pick b (require a 12 0) k) (ne-eqb k 0 n) in
+      ap (λ (i : ℕ). orNext i (require c 14 0)) first ∙ ap (λ (b : Bool). pick b (require c 14 0) k) (ne-eqb k 0 n)
+
+  pub stops-twice : k ≡ 0 → a ≡ false → before-test ≡ 12
+  unfolding orNext
+  stops-twice e f =
+      let first : orNext k (require a 12 0) ≡ 12 = ap (λ (i : ℕ). orNext i (require a 12 0)) e ∙ require-false a 12 0 f in
+      ap (λ (i : ℕ). orNext i (require c 14 0)) first
+
+  passed-first : k ≡ 0 → a ≡ true → before-test ≡ require c 14 0
+  unfolding orNext
+  passed-first e f =
+      let first : orNext k (require a 12 0) ≡ 0 = ap (λ (i : ℕ). orNext i (require a 12 0)) e ∙ require-true a 12 0 f in
+      ap (λ (i : ℕ). orNext i (require c 14 0)) first
+
+  pub stops-hold : k ≡ 0 → a ≡ true → c ≡ false → before-test ≡ 14
+  stops-hold e f g = passed-first e f ∙ require-false c 14 0 g
+
+  pub stops-nowhere : k ≡ 0 → a ≡ true → c ≡ true → before-test ≡ 0
+  stops-nowhere e f g = passed-first e f ∙ require-true c 14 0 g
+
 -- ---- a row that nothing refuses but its numbers
 
 -- the last of four tests is left where the others pass
@@ -105,8 +198,7 @@ same-test k s = rw (k .setup-same, k .dealings-same, k .complaints-same, k .chal
 module _ (r : Run) (s : List ℕ) (l : 4 ≤ stageOf r) where
   -- a tag that another stage takes is refused
   eleven : (g : Tag) (h : Handler) → (stageOf r ≡ takenAt g → ⊥) → untakenBy (atStage g (stageOf r) h) r s ≡ 0 → ⊥
-  unfolding untakenBy
-  eleven g h n e = absurd (omega (arith, ap (λ (x : Handler). untakenBy x r s) (off-stage g r h n), e))
+  eleven g h n e = absurd (omega (arith, elsewhere r s g h n, e))
 
   -- so is every earlier one
   early : (g : Tag) (h : Handler) → takenAt g < 4 → untakenBy (atStage g (stageOf r) h) r s ≡ 0 → ⊥

@@ -1,8 +1,41 @@
 // A bundle of response rows (a sheaf, in document 02), given to a run in one call.
 ghost use mathlib.Core.Path.{_≡_};
+ghost use Prim.Native.Nat.{_≤_};
+ghost use Rattle.run.specs.Runs.{stageOf};
+ghost use Rattle.run.specs.Steps.{untaken};
 ghost use Rattle.bundle.specs.Bundles.{outcome, bundled};
 use run::Reply;
 use run::Run;
+
+// The refusal of a row, at stage 4 or past it, that needs no test of its numbers, or 0.
+fn row_refusal(run: Run, row: &[u8]) -> u8
+    requires { ⌜ 4 ≤ stageOf run ⌝ }
+    ensures { λ r. ⌜ r ≡ untaken run (now (row .entry)) ⌝ }
+{
+    let tag = records::tag(row);
+    if tag == 0 {
+        return 1;
+    }
+    if tag != 5 {
+        return 11;
+    }
+    let stage = run.stage_of();
+    if stage != 4 {
+        return 11;
+    }
+    let number = refusals::response_refusal(run.setup.n, run.b, row);
+    if number != 0 {
+        return number;
+    }
+    let j = records::byte(row, 2);
+    if sets::has(run.responses.responders, j) {
+        return 12;
+    }
+    if !sets::has(run.complaints.holders, j) {
+        return 14;
+    }
+    0
+}
 
 // Response rows end to end, cut every 4+4b bytes whatever tags they bear, the last perhaps short. The list has a place a row and receives the number
 // that each is answered with. Refused at another stage than 4 with 11, then with a list of another length with 10.
@@ -34,8 +67,7 @@ pub fn take_rows(run: Run, bytes: &[u8], numbers: &mut [u8]) -> Reply
             length
         };
         let row = &rest[..size];
-        // without a test first, which does not copy the run
-        let mut number = next.untaken(row);
+        let mut number = row_refusal(next, row);
         if number == 0 {
             let holder = verification::holder_of(setup, row);
             // the values for every u, once a row passes for the first

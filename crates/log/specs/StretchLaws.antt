@@ -10,12 +10,12 @@ use native.Mathlib.Omega.{arith}
 use native.Mathlib.Decide.{decLe}
 use lib.ListN.{length, getD, take, drop, length-take, length-drop}
 use lib.Seq.{take-all, take-take, take-suc, drop-drop, length-take-le}
-use lib.Dec.{eqb, leb}
+use lib.Dec.{eqb}
 use borrow.Author.Tests.{eqb-true, ne-eqb, le-leb}
 use Rattle.lists.specs.Tests.{pick}
 use Rattle.lists.specs.TestLaws.{pick-case, no-both}
 use Rattle.parameters.specs.Definitions.{quorum}
-use Rattle.records.specs.Tags.{Tag, SU, SX, DE, GO, VE, CH, CS, RE, unknown, code, tagOf, responseLength}
+use Rattle.records.specs.Tags.{Tag, RE, code, tagOf, responseLength}
 use Rattle.response.specs.Definitions.{responseNumber}
 use Rattle.stages.specs.Definitions.{handlerAt}
 use Rattle.stages.specs.declared.Handler.the-variants.{TakeResponse}
@@ -26,11 +26,11 @@ use Rattle.run.specs.RunLaws.{stage-live}
 use Rattle.run.specs.Steps.{withRow, finished, afterResponse, handled, stepOf, afterFrom}
 use Rattle.run.specs.StepLaws.{step-tag, stage-case, answered-case}
 use Rattle.bundle.specs.Bundles.{rowsOf, numbersFrom}
-use Rattle.bundle.specs.RowLaws.{stage-batch}
+use Rattle.bundle.specs.RowLaws.{row-code, stage-batch}
 use Rattle.bundle.specs.CutLaws.{cut, cut-none, cut-next, row-is, row-rest, drop-take}
 use Rattle.log.specs.Cutting.{byBatch, lengthAt, lengthOf, whole}
 use Rattle.log.specs.Report.{refusalLine, refusalLines}
-use Rattle.log.specs.Turns.{nextLength, nextRecord, nextRest, recordsFrom, linesFrom, runFrom}
+use Rattle.log.specs.Turns.{nextLength, nextRecord, recordsFrom, linesFrom, runFrom}
 use Rattle.log.specs.TurnLaws.{whole-max, next-pos, next-max, tag-alone, records-next}
 use Rattle.log.specs.Stretches.{mostRows, isRow, stretchOf, rowsAhead, numberLines}
 
@@ -80,18 +80,7 @@ lines-take position l x h =
 -- ---- one row
 
 row-tag : (s : List ℕ) → isRow s ≡ true → tagOf s ≡ RE
-row-tag s e = go (tagOf s) (eqb-true (code (tagOf s)) 5 e)
-  where
-    go : (g : Tag) → code g ≡ 5 → g ≡ RE
-    go SU f = absurd (omega (arith, f))
-    go SX f = absurd (omega (arith, f))
-    go DE f = absurd (omega (arith, f))
-    go GO f = absurd (omega (arith, f))
-    go VE f = absurd (omega (arith, f))
-    go CH f = absurd (omega (arith, f))
-    go CS f = absurd (omega (arith, f))
-    go RE f = refl
-    go unknown f = absurd (omega (arith, f))
+row-tag s e = row-code (tagOf s) (eqb-true (code (tagOf s)) 5 e)
 
 -- a row has bytes
 row-some : (s : List ℕ) → isRow s ≡ true → 0 < length s

@@ -1,17 +1,14 @@
 -- `take_rows` meets its contract. The loop gives the rows to the run one by one, each tested against the values that were combined for those before it.
 -- Assumes nothing.
 use borrow.Author.Needs.{needs}
-use borrow.Author.Tests.{eq-eqb, ne-eqb}
 use native.Mathlib.Omega.{arith}
 use mathlib.Core.Logic.{_⊎_, inl, inr, ⊎-elim}
 use mathlib.Core.Path.{_≡_, refl, sym, ap, ap₂, subst, subst⁻¹, _∙_}
 use mathlib.Core.Bool.{Bool, true, false}
 use mathlib.Core.List.{List}
 use Prim.Native.Nat.{ℕ, _+_, _-_, _/_, _≤_, _<_}
-use lib.ListN.{length, take, drop, set, length-drop}
+use lib.ListN.{length, take, drop, length-drop}
 use lib.Seq.{length-take-le}
-use lib.Dec.{eqb}
-use Rattle.lists.specs.Tests.{pick}
 use Rattle.lists.specs.TestLaws.{fails-stays}
 use Rattle.parameters.specs.Definitions.{inBounds}
 use Rattle.parameters.specs.ParameterLaws.{bounds-test}
@@ -25,11 +22,11 @@ use Rattle.run.specs.Runs.{stageOf}
 use Rattle.run.specs.RunLaws.{Formed, formed-of, formed-batch, stage-live}
 use Rattle.run.specs.Steps.{stepOf, untaken, afterFrom, afterResponse}
 use Rattle.run.specs.RefusalLaws.{untaken-refused}
-use Rattle.bundle.specs.Bundles.{Outcome, outcome, rowsOf, numbersFrom, bundled}
+use Rattle.bundle.specs.Bundles.{outcome, rowsOf, numbersFrom}
 use Rattle.bundle.specs.BundleLaws.{rows-count, bundle-stage, bundle-places, bundle-given}
 use Rattle.bundle.specs.CutLaws.{left-is, cut, rowLength, row-is}
 use Rattle.bundle.specs.RowLaws.{stage-batch, Kept, kept-response, passesAt, same-test, only-row, row-taken, row-refused}
-use Rattle.bundle.proofs.Taking.{Taking, taking-start, taking-some, taking-next, taking-run, taking-numbers}
+use Rattle.bundle.proofs.Taking.{Taking, taking-start, taking-next, taking-run, taking-numbers}
 use Rattle.bundle.proofs.take_rows.Statement.{statement}
 use Rattle.bundle.proofs.take_rows.Tie as tie
 
@@ -101,12 +98,12 @@ lent j =
     let s = start (l .before .before) .args .bytes .now in
     ap₂ (λ (n : ℕ) (t : List ℕ). take n t) (measured j) (left-is s (l .loop .from)) ∙ row-is (sized (l .before .before) .response-length .result) (drop (l .loop .from) s)
 
-asked : (u : tie.After-untaken Inv-loop μ-loop) →
+asked : (u : tie.After-row-refusal Inv-loop μ-loop) →
     let l = u .before .before .before .before .before in
-    u .untaken .result ≡ untaken (l .loop .next) (rowAt l)
+    u .row-refusal .result ≡ untaken (l .loop .next) (rowAt l)
 asked u =
     let l = u .before .before .before .before .before in
-    u .untaken .ensures ∙ ap (untaken (l .loop .next)) (lent (u .before .before))
+    u .row-refusal .ensures ∙ ap (untaken (l .loop .next)) (lent (u .before .before))
 
 -- ---- the test
 
@@ -284,8 +281,8 @@ slice-aggregate-row c =
     let s = start (l .before .before) .args .bytes .now in
     rw (left-is s (l .loop .from)) (sym (length-take-le (j .if3 .size) (drop (l .loop .from) s) (omega (arith, measured j))))
 
-untaken-requires : tie.Need-untaken-requires Inv-loop μ-loop
-untaken-requires c κs = search needs
+row-refusal-requires : tie.Need-row-refusal-requires Inv-loop μ-loop
+row-refusal-requires c κs = c .before .before .before .before .loop .inv .1 .kept .late
 
 holder-of-requires : tie.Need-holder-of-requires Inv-loop μ-loop
 holder-of-requires c κs = bounds-test (formed (c .before .before .before .before .before .before .before .before) .bounds)
@@ -395,7 +392,7 @@ take-rows-spec =
     part-rest-start
     part-rest-end
     slice-aggregate-row
-    untaken-requires
+    row-refusal-requires
     holder-of-requires
     test-row-requires
     qual-values-requires-2

@@ -2,14 +2,13 @@
 -- Assumes nothing.
 use mathlib.Core.Path.{_≡_, refl, sym, ap, ap₂, subst, subst⁻¹, _∙_}
 use mathlib.Core.Logic.{⊎-elim}
-use mathlib.Core.List.{List, [], _∷_, _++_}
+use mathlib.Core.List.{List, _++_}
 use Prim.Native.Nat.{ℕ, _+_, _*_, _-_, _≤_, _<_, min}
 use native.Mathlib.Omega.{arith}
 use borrow.Author.Needs.{needs}
 use lib.ListN.{length, take, drop, length-append, length-set, length-drop}
 use lib.Seq.{length-take-le, take-at}
-use Rattle.text.specs.Texts.{Wrote}
-use Rattle.text.specs.TextLaws.{wrote-none, wrote-append, wrote-length}
+use Rattle.text.specs.TextLaws.{wrote-append}
 use Rattle.records.specs.Tags.{responseLength}
 use Rattle.run.specs.declared.Reply.{Reply}
 use Rattle.run.specs.declared.Run.{Run}
@@ -21,7 +20,7 @@ use Rattle.bundle.specs.CutLaws.{left-is}
 use Rattle.log.specs.Turns.{nextLength, nextRecord}
 use Rattle.log.specs.TurnLaws.{next-within}
 use Rattle.log.specs.Stretches.{mostRows, stretchOf, rowsAhead}
-use Rattle.log.specs.StretchLaws.{Turn, numbers-length, rowBytes, rows-some, rows-max, rows-are, turn-rows, turn-record}
+use Rattle.log.specs.StretchLaws.{Turn, numbers-length, rowBytes, rows-some, rows-max, rows-are, turn-rows}
 use Rattle.log.proofs.Reading.{Reading, Given, given-same, record-given, reading-start, reading-place, reading-length, reading-next, reading-lines, reading-run}
 use Rattle.log.proofs.put_page.Statement.{statement}
 use Rattle.log.proofs.put_page.Tie as tie
