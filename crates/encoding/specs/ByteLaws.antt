@@ -12,7 +12,6 @@ use lib.Pow.{shr-shr}
 use lib.ListN.{length, length-append}
 use lib.Seq.{getD-append-add}
 use Rattle.field.specs.declared.Scalar.{Scalar}
-use Rattle.field.specs.declared.Element.{Element}
 use Rattle.field.specs.Definitions.{scalar, element, generator, isScalar, isElement, isIdentity, raise}
 use Rattle.field.specs.ElementLaws.{generator-element, generator-identity, raise-element, raise-below, below-word}
 use Rattle.field.specs.Readings.{identity-is}

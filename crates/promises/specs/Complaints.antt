@@ -8,7 +8,7 @@ use native.Mathlib.Omega.{arith}
 use native.Mathlib.Decide.{decLt}
 use lib.ListN.{getD}
 use lib.Dec.{eqb}
-use borrow.Author.Tests.{eqb-true, eqb-false}
+use borrow.Author.Tests.{eqb-true}
 use Rattle.lists.specs.Tests.{pick, allTo, require, orNext}
 use Rattle.lists.specs.TestLaws.{one-fails, no-both}
 use Rattle.sets.specs.Masks.{has, maskOf}
@@ -16,7 +16,7 @@ use Rattle.sets.specs.MaskLaws.{has-none, has-maskOf, has-above, has-le, maskOf
 use Rattle.field.specs.Definitions.{scalar, element}
 use Rattle.records.specs.Bytes.{word, sender}
 use Rattle.records.specs.Tags.{Tag, SU, SX, DE, GO, VE, CH, CS, RE, unknown, tagOf, sharesFrom, maskAt}
-use Rattle.refusals.specs.Refusals.{setupRefusal, headRefusal, dealingRefusal, complaintRefusal, scalarsRefusal, challengesRefusal, shiftedRefusal, responseRefusal}
+use Rattle.refusals.specs.Refusals.{setupRefusal, complaintRefusal, challengesRefusal, shiftedRefusal}
 use Rattle.refusals.specs.RefusalLaws.{complaint-passed}
 use Rattle.protocol.specs.Transcript.{validShare}
 use Rattle.run.specs.declared.Run.{Run}

@@ -1,7 +1,7 @@
 -- Every record keeps the invariant, accepted or refused; so every list has it. Assumes nothing.
 use mathlib.Core.Path.{_≡_, refl, sym, ap, subst, fun-ext, _∙_}
 use mathlib.Core.Bool.{Bool, true, false, _&&_, _||_}
-use mathlib.Core.Logic.{inl, inr, ⊎-elim}
+use mathlib.Core.Logic.{inl, inr}
 use mathlib.Core.List.{List, [], _∷_, _++_, append-assoc, append-nil}
 use Prim.Native.Nat.{ℕ, suc, _+_, _*_, _-_, _≤_, _<_}
 use native.Mathlib.Omega.{arith}
@@ -40,7 +40,7 @@ use Rattle.stages.specs.declared.Handler.the-variants.{TakeSetup, TakeWaiting, 
 use Rattle.promises.specs.Lists.{acceptedFrom, accepted, ofTag, first, challengeBy, shiftBy}
 use Rattle.promises.specs.ListLaws.{snoc, more, ofTag-snoc}
 use Rattle.promises.specs.SenderLaws.{slots-none}
-use Rattle.promises.specs.InvariantLaws.{ChallengesOf, BySetup, ByWaiting, Begun, Counts, AtStage, Live, Responding, Invariant, begun-gone, begun-past, live-bounds, live-well-formed, stage-of}
+use Rattle.promises.specs.InvariantLaws.{ChallengesOf, BySetup, Begun, Counts, AtStage, Live, Responding, Invariant, begun-gone, begun-past, live-bounds, live-well-formed, stage-of}
 use Rattle.promises.specs.InvariantPartLaws.{no-dealings, no-complaints, no-responses, dealing-new, dealings-more, complaint-new, complaints-more, complaints-kept, response-new, responses-more}
 
 -- a stage that no CH or CS leads to: 1, 2, 3 or 6

@@ -1,7 +1,7 @@
 -- Laws of masks of w bits, over the width: one more party, a union, a difference, and the parties above. The number of members is in MemberLaws
 -- (count-bits) and in Sizes, the set of those that pass a test in MaskLaws (maskOf-lt). Assumes nothing.
 use mathlib.Core.Path.{_≡_, sym, _∙_}
-use mathlib.Core.Bool.{true, false, _&&_, and-eq-true-iff}
+use mathlib.Core.Bool.{false, _&&_, and-eq-true-iff}
 use Prim.Native.Nat.{ℕ, zero, suc, _-_, _^_, _≤_, _<_}
 use native.Mathlib.Omega.{arith}
 use native.Mathlib.Nat.{le-trans}

@@ -3,7 +3,6 @@ use borrow.Author.Needs.{needs}
 use native.Mathlib.Omega.{arith}
 use mathlib.Core.Path.{_≡_, sym, ap, _∙_}
 use Prim.Native.Nat.{_-_}
-use Rattle.field.specs.declared.Reading.{Reading}
 use Rattle.field.specs.Definitions.{isElement, someElement}
 use Rattle.field.specs.Readings.{element-read}
 use Rattle.records.specs.Bytes.{word}

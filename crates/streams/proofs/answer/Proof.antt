@@ -1,6 +1,5 @@
 -- `answer` is safe and ends: it counts to the length of the buffer. Assumes nothing.
 use Prim.Native.Nat.{_≤_, _-_}
-use native.Mathlib.Omega.{arith}
 use borrow.Author.Needs.{needs}
 use Rattle.streams.proofs.answer.Statement.{statement}
 use Rattle.streams.proofs.answer.Tie as tie

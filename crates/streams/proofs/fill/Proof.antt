@@ -1,8 +1,7 @@
 -- `fill` is safe and ends: it counts to the length of the buffer, which stays. Assumes nothing.
 use Prim.Native.Nat.{_≤_, _-_}
-use native.Mathlib.Omega.{arith}
-use mathlib.Core.Path.{_≡_, _∙_, ap}
-use lib.ListN.{length, length-set}
+use mathlib.Core.Path.{_≡_}
+use lib.ListN.{length}
 use borrow.Author.Needs.{needs}
 use Rattle.streams.proofs.fill.Statement.{statement}
 use Rattle.streams.proofs.fill.Tie as tie

@@ -2,10 +2,9 @@
 use borrow.Author.Needs.{needs}
 use native.Mathlib.Omega.{arith}
 use mathlib.Core.Path.{_≡_, sym, ap, ap₂, _∙_}
-use Prim.Native.Nat.{ℕ, _+_}
-use Rattle.field.specs.declared.Scalar.{Scalar}
+use Prim.Native.Nat.{ℕ}
 use Rattle.field.specs.declared.Element.{Element}
-use Rattle.interpolation.specs.Definitions.{party, slot, committedPoint}
+use Rattle.interpolation.specs.Definitions.{party, committedPoint}
 use Rattle.interpolation.specs.PointLaws.{party-is}
 use Rattle.rows.specs.declared.Row.{Row}
 use Rattle.rows.specs.Definitions.{listed, weightsOf}
@@ -13,7 +12,6 @@ use Rattle.parameters.specs.ParameterLaws.{bounds-of, quorum-max}
 use Rattle.records.specs.Bytes.{sender}
 use Rattle.protocol.specs.Transcript.{keyAt}
 use Rattle.dealing.specs.Definitions.{keyIn}
-use Rattle.verification.specs.declared.Holder.{Holder}
 use Rattle.verification.specs.Tests.{holderOf}
 use Rattle.verification.proofs.holder_of.Statement.{statement}
 use Rattle.verification.proofs.holder_of.Tie as tie
