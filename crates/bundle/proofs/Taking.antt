@@ -1,7 +1,7 @@
 -- What stands while the rows of a bundle are given to a run: the numbers of the rows passed are in the list, and the run is theirs. Assumes nothing.
 use mathlib.Core.Path.{_≡_, refl, sym, ap, ap₂, _∙_}
 use mathlib.Core.List.{List, [], _∷_, _++_, append-assoc, append-nil}
-use Prim.Native.Nat.{ℕ, _+_, _-_, _/_, _≤_, _<_}
+use Prim.Native.Nat.{ℕ, _+_, _≤_, _<_}
 use native.Mathlib.Numerals.{add-one}
 use native.Mathlib.Omega.{arith}
 use native.Mathlib.Decide.{decLt}
@@ -12,7 +12,7 @@ use Rattle.run.specs.declared.Reply.{Reply}
 use Rattle.run.specs.Runs.{stageOf}
 use Rattle.run.specs.Steps.{stepOf, afterFrom}
 use Rattle.bundle.specs.Bundles.{numbersFrom}
-use Rattle.bundle.specs.CutLaws.{cut, cut-none, cut-next, cut-count, rowLength, rest-is}
+use Rattle.bundle.specs.CutLaws.{cut, cut-none, cut-next, rowLength, rest-is}
 use Rattle.bundle.specs.RowLaws.{Kept, kept-start}
 
 pub record Taking (r : Run) (s : List ℕ) (size count : ℕ) (list : List ℕ) (next : Run) (from x : ℕ) : Type 0 where
@@ -23,13 +23,13 @@ pub record Taking (r : Run) (s : List ℕ) (size count : ℕ) (list : List ℕ) 
   pub same-run : afterFrom next (cut size (drop from s)) ≡ afterFrom r (cut size s)
   pub same-numbers : take x list ++ numbersFrom next (cut size (drop from s)) ≡ numbersFrom r (cut size s)
 
-pub taking-start : (r : Run) (s : List ℕ) (size count : ℕ) (list : List ℕ) → stageOf r ≡ 4 → 0 < size → length list ≡ count → count ≡ (length s + (size - 1)) / size
+pub taking-start : (r : Run) (s : List ℕ) (size count : ℕ) (list : List ℕ) → stageOf r ≡ 4 → length list ≡ count → count ≡ length (cut size s)
     → Taking r s size count list r 0 0
-taking-start r s size count list e p l c =
+taking-start r s size count list e l c =
     record {
       within = omega arith;
       places = l;
-      left = omega (arith, cut-count (length s) size s p (omega arith), c);
+      left = omega (arith, c);
       kept = kept-start r e;
       same-run = refl;
       same-numbers = refl;

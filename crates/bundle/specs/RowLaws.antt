@@ -1,29 +1,25 @@
 -- What a row does to a run at stage 4 or past it: all that rows are tested against is kept, and only the test of its numbers is left where nothing else
 -- refuses it. Assumes nothing.
 use mathlib.Core.Path.{_≡_, refl, sym, ap, _∙_}
-use mathlib.Core.Bool.{Bool, true, false, not}
+use mathlib.Core.Bool.{Bool, true, false}
 use mathlib.Core.List.{List}
 use Prim.Native.Nat.{ℕ, _+_, _≤_, _<_}
 use native.Mathlib.Omega.{arith}
 use native.Mathlib.Decide.{ℕ-discrete}
 use lib.Dec.{eqb}
-use borrow.Author.Tests.{ne-eqb}
-use Rattle.lists.specs.Tests.{pick, require, orNext}
-use Rattle.lists.specs.TestLaws.{pick-case, require-true, require-false, or-next, passed}
-use Rattle.sets.specs.Masks.{has}
+use Rattle.lists.specs.Tests.{require}
+use Rattle.lists.specs.TestLaws.{pick-case, require-true, require-false}
 use Rattle.parameters.specs.Definitions.{quorum}
 use Rattle.parameters.specs.ParameterLaws.{batch-pos}
-use Rattle.records.specs.Bytes.{sender}
 use Rattle.records.specs.Tags.{Tag, SU, SX, DE, GO, VE, CH, CS, RE, unknown, code, tagOf}
-use Rattle.refusals.specs.Refusals.{responseRefusal}
 use Rattle.stages.specs.declared.Handler.{Handler}
 use Rattle.stages.specs.declared.Handler.the-variants.{TakeSetup, TakeWaiting, TakeDealing, TakeGo, TakeComplaint, TakeChallenges, TakeShifted, TakeResponse}
 use Rattle.stages.specs.Definitions.{takenAt, atStage, handlerAt}
 use Rattle.verification.specs.Definitions.{rowPasses}
-use Rattle.response.specs.Definitions.{responseNumber}
+use Rattle.response.specs.ResponseLaws.{left-tested}
 use Rattle.run.specs.declared.Run.{Run}
-use Rattle.run.specs.Runs.{wellFormed, stageOf}
-use Rattle.run.specs.RunLaws.{formed-of, fits-gone, stage-past, stage-live}
+use Rattle.run.specs.Runs.{stageOf}
+use Rattle.run.specs.RunLaws.{formed-of, fits-gone, stage-least, stage-live}
 use Rattle.run.specs.Steps.{withRow, finished, afterResponse, refused, answered, handled, stepOf, untakenBy, untaken}
 use Rattle.run.specs.StepLaws.{off-stage, at-stage}
 
@@ -68,10 +64,6 @@ kept-start r e =
       late = omega arith;
     }
 
--- a run that keeps stage 4 or more counts as one past stage 3, well formed or not
-stage-least : (r : Run) → 4 ≤ r .stage → 4 ≤ stageOf r
-stage-least r l = rw (stage-past r (λ e. absurd (omega arith))) (pick-case (λ (k : ℕ). 4 ≤ k) (wellFormed r) (r .stage) 6 (λ e. l) (λ e. omega arith))
-
 module _ {r next : Run} (k : Kept r next) (s : List ℕ) where
   -- with one row more, done or not
   pub kept-response : Kept r (afterResponse next s)
@@ -90,7 +82,7 @@ module _ {r next : Run} (k : Kept r next) (s : List ℕ) where
             dealings-same = d ∙ k .dealings-same;
             complaints-same = c ∙ k .complaints-same;
             challenges-same = h ∙ k .challenges-same;
-            late = stage-least z l;
+            late = stage-least 4 z (omega arith) (omega arith) l;
           }
 
 -- ---- what refuses a row without a test of its numbers
@@ -145,47 +137,7 @@ module _ (r : Run) (s : List ℕ) where
   unfolding untaken handlerAt takenAt
   by-row e z = ap (λ (g : Tag). untakenBy (handlerAt g (stageOf r)) r s) (row-tag e) ∙ ap (λ (h : Handler). untakenBy h r s) (at-stage RE r TakeResponse z)
 
--- the three that are asked before the test, as the code asks them
-module _ (k : ℕ) (a c : Bool) where
-  abbrev before-test : ℕ
-  before-test = orNext (orNext k (require a 12 0)) (require c 14 0)
-
-  pub stops-first : (k ≡ 0 → ⊥) → before-test ≡ k
-  unfolding orNext
-  stops-first n =
-      let first : orNext k (require a 12 0) ≡ k = ap (λ (b : Bool). pick b (require a 12 0) k) (ne-eqb k 0 n) in
-      ap (λ (i : ℕ). orNext i (require c 14 0)) first ∙ ap (λ (b : Bool). pick b (require c 14 0) k) (ne-eqb k 0 n)
-
-  pub stops-twice : k ≡ 0 → a ≡ false → before-test ≡ 12
-  unfolding orNext
-  stops-twice e f =
-      let first : orNext k (require a 12 0) ≡ 12 = ap (λ (i : ℕ). orNext i (require a 12 0)) e ∙ require-false a 12 0 f in
-      ap (λ (i : ℕ). orNext i (require c 14 0)) first
-
-  passed-first : k ≡ 0 → a ≡ true → before-test ≡ require c 14 0
-  unfolding orNext
-  passed-first e f =
-      let first : orNext k (require a 12 0) ≡ 0 = ap (λ (i : ℕ). orNext i (require a 12 0)) e ∙ require-true a 12 0 f in
-      ap (λ (i : ℕ). orNext i (require c 14 0)) first
-
-  pub stops-hold : k ≡ 0 → a ≡ true → c ≡ false → before-test ≡ 14
-  stops-hold e f g = passed-first e f ∙ require-false c 14 0 g
-
-  pub stops-nowhere : k ≡ 0 → a ≡ true → c ≡ true → before-test ≡ 0
-  stops-nowhere e f g = passed-first e f ∙ require-true c 14 0 g
-
 -- ---- a row that nothing refuses but its numbers
-
--- the last of four tests is left where the others pass
-last-left : (k : ℕ) (a c : Bool) (x : ℕ) → orNext (orNext k (require a 12 0)) (require c 14 0) ≡ 0 → orNext k (require a 12 (require c 14 x)) ≡ x
-unfolding orNext
-last-left k a c x e =
-    let both = or-next (orNext k (require a 12 0)) (require c 14 0) e in
-    let first = or-next k (require a 12 0) (both .0) in
-    let none : k ≡ 0 = first .0 in
-    ap (λ (i : ℕ). orNext i (require a 12 (require c 14 x))) none
-    ∙ require-true a 12 (require c 14 x) (passed a 12 0 (first .1) (omega arith) .0)
-    ∙ require-true c 14 x (passed c 14 0 (both .1) (omega arith) .0)
 
 -- its numbers pass
 abbrev pub passesAt : Run → List ℕ → Bool
@@ -206,10 +158,8 @@ module _ (r : Run) (s : List ℕ) (l : 4 ≤ stageOf r) where
 
   -- an RE at stage 4 is answered by the test
   row-left : untakenBy TakeResponse r s ≡ 0 → handled TakeResponse r s ≡ answered r (require (passesAt r s) 15 0) (afterResponse r s)
-  unfolding untakenBy handled responseNumber
-  row-left e =
-      ap (λ (k : ℕ). answered r k (afterResponse r s))
-      (last-left (responseRefusal (r .setup .n) (r .b) s) (not (has (r .responses .responders) (sender s))) (has (r .complaints .holders) (sender s)) (require (passesAt r s) 15 0) e)
+  unfolding untakenBy handled
+  row-left e = ap (λ (k : ℕ). answered r k (afterResponse r s)) (left-tested (r .b) (r .setup) (r .dealings) (r .complaints) (r .challenges) (r .responses) s e)
 
   pub only-row : untaken r s ≡ 0 → (stageOf r ≡ 4) × (stepOf r s ≡ answered r (require (passesAt r s) 15 0) (afterResponse r s))
   unfolding untaken stepOf handlerAt takenAt untakenBy

@@ -1,9 +1,10 @@
 // A bundle of response rows (a sheaf, in document 02), given to a run in one call.
 ghost use mathlib.Core.Path.{_≡_};
 ghost use Prim.Native.Nat.{_≤_};
+ghost use lib.ListN.{length};
 ghost use Rattle.run.specs.Runs.{stageOf};
 ghost use Rattle.run.specs.Steps.{untaken};
-ghost use Rattle.bundle.specs.Bundles.{outcome, bundled};
+ghost use Rattle.bundle.specs.Bundles.{outcome, rowsOf, given, bundled};
 use run::Reply;
 use run::Run;
 
@@ -23,34 +24,18 @@ fn row_refusal(run: Run, row: &[u8]) -> u8
     if stage != 4 {
         return 11;
     }
-    let number = refusals::response_refusal(run.setup.n, run.b, row);
-    if number != 0 {
-        return number;
-    }
-    let j = records::byte(row, 2);
-    if sets::has(run.responses.responders, j) {
-        return 12;
-    }
-    if !sets::has(run.complaints.holders, j) {
-        return 14;
-    }
-    0
+    let holders = run.complaints.holders;
+    response::untested(run.setup.n, run.b, run.responses.responders, holders, row)
 }
 
-// Response rows end to end, cut every 4+4b bytes whatever tags they bear, the last perhaps short. The list has a place a row and receives the number
-// that each is answered with. Refused at another stage than 4 with 11, then with a list of another length with 10.
-pub fn take_rows(run: Run, bytes: &[u8], numbers: &mut [u8]) -> Reply
-    ensures { λ r. ⌜ outcome (r .run) (r .number) (now (numbers .exit)) ≡ bundled run (now (bytes .entry)) (now (numbers .entry)) ⌝ }
+// The run after the rows of a bundle, given one by one, and their numbers in a list that has a place for each.
+fn give_rows(run: Run, bytes: &[u8], numbers: &mut [u8]) -> Run
+    requires { ⌜ (stageOf run ≡ 4) × (length (now numbers) ≡ length (rowsOf (run .b) (now bytes))) ⌝ }
+    ensures { λ r. ⌜ outcome r 0 (now (numbers .exit)) ≡ given run (now (bytes .entry)) ⌝ }
 {
-    if run.stage_of() != 4 {
-        return run.answer(11);
-    }
     let b = run.b;
     let length = records::response_length(b);
     let count = numbers.len();
-    if count != (bytes.len() + (length - 1)) / length {
-        return run.answer(10);
-    }
     let setup = run.setup;
     let dealings = run.dealings;
     let complaints = run.complaints;
@@ -88,5 +73,21 @@ pub fn take_rows(run: Run, bytes: &[u8], numbers: &mut [u8]) -> Reply
         numbers[x] = number;
         from += size;
     }
-    next.answer(0)
+    next
+}
+
+// Response rows end to end, cut every 4+4b bytes whatever tags they bear, the last perhaps short. The list has a place a row and receives the number
+// that each is answered with. Refused at another stage than 4 with 11, then with a list of another length with 10.
+pub fn take_rows(run: Run, bytes: &[u8], numbers: &mut [u8]) -> Reply
+    ensures { λ r. ⌜ outcome (r .run) (r .number) (now (numbers .exit)) ≡ bundled run (now (bytes .entry)) (now (numbers .entry)) ⌝ }
+{
+    if run.stage_of() != 4 {
+        return run.answer(11);
+    }
+    let length = records::response_length(run.b);
+    let count = numbers.len();
+    if count != (bytes.len() + (length - 1)) / length {
+        return run.answer(10);
+    }
+    give_rows(run, bytes, numbers).answer(0)
 }

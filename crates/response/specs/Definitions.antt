@@ -25,13 +25,17 @@ use Rattle.response.specs.declared.Responses.{Responses}
 unfoldable pub noResponses : Responses
 noResponses = record { count = 0; responders = 0; numbers = filled places (scalar 0) }
 
--- the refusal of an RE at stage 4: 12, then 14, then 15, after those from the input
+-- the refusals of an RE at stage 4 that need no test of its numbers, with those who have sent one and those of HOLD: 12, then 14, after those from the
+-- input; then the rest
+abbrev pub untested : ℕ → ℕ → ℕ → ℕ → List ℕ → ℕ → ℕ
+untested n b sent holders s rest =
+    orNext (responseRefusal n b s)
+    (require (not (has sent (sender s))) 12
+    (require (has holders (sender s)) 14 rest))
+
+-- the refusal of an RE at stage 4: at last 15
 unfoldable pub responseNumber : ℕ → Setup → Dealings → Complaints → Challenges → Responses → List ℕ → ℕ
-responseNumber b setup d c e p s =
-    orNext (responseRefusal (setup .n) b s)
-    (require (not (has (p .responders) (sender s))) 12
-    (require (has (c .holders) (sender s)) 14
-    (require (rowPasses b setup d c e s) 15 0)))
+responseNumber b setup d c e p s = untested (setup .n) b (p .responders) (c .holders) s (require (rowPasses b setup d c e s) 15 0)
 
 -- a row's b numbers stand from its sender's place on
 unfoldable pub withResponse : ℕ → Responses → List ℕ → Responses

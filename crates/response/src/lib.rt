@@ -8,7 +8,7 @@ ghost use Rattle.parameters.specs.Definitions.{inBounds};
 ghost use Rattle.records.specs.Bytes.{word};
 ghost use Rattle.rows.specs.Definitions.{basisOf};
 ghost use Rattle.arrays.specs.Arrays.{memberPoints};
-ghost use Rattle.response.specs.Definitions.{responseNumber, withResponse, phiOf, signaturesOf};
+ghost use Rattle.response.specs.Definitions.{untested, responseNumber, withResponse, phiOf, signaturesOf};
 use challenge::Challenges;
 use complaint::Complaints;
 use dealing::Dealings;
@@ -40,6 +40,24 @@ fn load_numbers(list: [Scalar; PLACES], base: u16, bytes: &[u8], count: u16) -> 
     next
 }
 
+// The refusal of a response row that needs no test of its numbers, or 0.
+pub fn untested(n: u8, b: u8, sent: u64, holders: u64, bytes: &[u8]) -> u8
+    ensures { λ r. ⌜ r ≡ untested n b sent holders (now (bytes .entry)) 0 ⌝ }
+{
+    let number = refusals::response_refusal(n, b, bytes);
+    if number != 0 {
+        return number;
+    }
+    let j = records::byte(bytes, 2);
+    if sets::has(sent, j) {
+        return 12;
+    }
+    if !sets::has(holders, j) {
+        return 14;
+    }
+    0
+}
+
 impl Responses {
     // The refusal of a response row, or 0.
     pub fn number(
@@ -54,16 +72,9 @@ impl Responses {
         requires { ⌜ (inBounds (setup .n) (setup .t) (setup .a) ≡ true) × (b ≤ setup .n) ⌝ }
         ensures { λ r. ⌜ r ≡ responseNumber b setup dealings complaints challenges self (now (bytes .entry)) ⌝ }
     {
-        let number = refusals::response_refusal(setup.n, b, bytes);
+        let number = untested(setup.n, b, self.responders, complaints.holders, bytes);
         if number != 0 {
             return number;
-        }
-        let j = records::byte(bytes, 2);
-        if sets::has(self.responders, j) {
-            return 12;
-        }
-        if !sets::has(complaints.holders, j) {
-            return 14;
         }
         if !verification::row_passes(b, setup, dealings, complaints, challenges, bytes) {
             return 15;

@@ -12,6 +12,7 @@ use Rattle.refusals.specs.Refusals.{setupRefusal, challengesRefusal, shiftedRef
 use Rattle.dealing.specs.Definitions.{dealingNumber}
 use Rattle.complaint.specs.Definitions.{complaintNumber}
 use Rattle.response.specs.Definitions.{responseNumber}
+use Rattle.response.specs.ResponseLaws.{found-untested}
 use Rattle.run.specs.declared.Run.{Run}
 use Rattle.stages.specs.declared.Handler.{Handler}
 use Rattle.stages.specs.declared.Handler.the-variants.{TakeSetup, TakeWaiting, TakeDealing, TakeGo, TakeComplaint, TakeChallenges, TakeShifted, TakeResponse, Refuse}
@@ -56,21 +57,8 @@ asked-last k b m x p = go (eqb k 0) refl b
     go true e false = rw (ne-eqb m 0 (λ z. omega arith))
     go false e b = rw e
 
--- a refusal found before the last test is asked is the whole one
-stops-twice : (k : ℕ) (b c : Bool) (m₁ m₂ rest : ℕ) → 0 < m₁ → (orNext (orNext k (require b m₁ 0)) (require c m₂ 0) ≡ 0 → ⊥)
-    → orNext k (require b m₁ (require c m₂ rest)) ≡ orNext (orNext k (require b m₁ 0)) (require c m₂ 0)
-unfolding orNext require
-stops-twice k b c m₁ m₂ rest p n = go (eqb k 0) refl b c n
-  where
-    go : (d : Bool) → eqb k 0 ≡ d → (b c : Bool) → (orNext (pick d (require b m₁ 0) k) (require c m₂ 0) ≡ 0 → ⊥)
-        → pick d (require b m₁ (require c m₂ rest)) k ≡ orNext (pick d (require b m₁ 0) k) (require c m₂ 0)
-    go true e true true n = absurd (n refl)
-    go true e true false n = refl
-    go true e false c n = rw (ne-eqb m₁ 0 (λ z. omega arith))
-    go false e b c n = rw e
-
 pub untaken-refused : (r : Run) (s : List ℕ) → (untaken r s ≡ 0 → ⊥) → stepOf r s ≡ refused r (untaken r s)
-unfolding untaken stepOf handled untakenBy dealingNumber responseNumber
+unfolding untaken stepOf handled untakenBy dealingNumber
 untaken-refused r s = go (handlerAt (tagOf s) (stageOf r))
   where
     go : (h : Handler) → (untakenBy h r s ≡ 0 → ⊥) → handled h r s ≡ refused r (untakenBy h r s)
@@ -81,5 +69,5 @@ untaken-refused r s = go (handlerAt (tagOf s) (stageOf r))
     go TakeComplaint n = answered-number r _ n refl
     go TakeChallenges n = answered-number r _ n refl
     go TakeShifted n = answered-number r _ n refl
-    go TakeResponse n = answered-number r _ n (stops-twice _ _ _ 12 14 _ (omega arith) n)
+    go TakeResponse n = answered-number r _ n (found-untested _ _ _ _ _ _ _ n)
     go (Refuse k) n = refl

@@ -9,6 +9,7 @@ use mathlib.Core.Logic.{_⊎_, inl, inr, ⊎-elim}
 use Prim.Native.Nat.{ℕ, _-_, _≤_, _<_}
 use lib.Dec.{eqb, leb}
 use Rattle.lists.specs.Tests.{pick}
+use Rattle.lists.specs.TestLaws.{pick-case}
 use Rattle.parameters.specs.Definitions.{batch}
 use Rattle.parameters.specs.ParameterLaws.{Bounds, bounds-of, bounds-test, batch-max}
 use Rattle.stages.specs.Definitions.{batchFits}
@@ -109,6 +110,10 @@ stage-of-formed r w = go (ℕ-discrete (r .stage) 0)
     go : Dec (r .stage ≡ 0) → stageOf r ≡ r .stage
     go (yes e) = stage-none r e ∙ sym e
     go (no ne) = stage-past r ne ∙ rw w
+
+-- a run that keeps stage k or more, past 0, is at k or past it, well formed or not
+pub stage-least : (k : ℕ) (r : Run) → 0 < k → k ≤ 6 → k ≤ r .stage → k ≤ stageOf r
+stage-least k r p m l = rw (stage-past r (λ e. absurd (omega arith))) (pick-case (λ (i : ℕ). k ≤ i) (wellFormed r) (r .stage) 6 (λ e. l) (λ e. m))
 
 -- a run between stage 0 and stage 6 is well formed, and keeps that stage
 pub stage-live : (r : Run) (g : ℕ) → stageOf r ≡ g → 0 < g → g < 6 → (r .stage ≡ g) × (wellFormed r ≡ true)

@@ -1,18 +1,16 @@
 -- What a record does to a run (document 01, "The run", "From the input", "From the state"; CS is of document 02, request 2.1,
 -- SX and GO of request 2.5).
 use Prim.Native.Nat.{ℕ, _+_}
-use mathlib.Core.Bool.{Bool, true, false, not}
+use mathlib.Core.Bool.{Bool, true, false}
 use mathlib.Core.List.{List, [], _∷_}
 use lib.Dec.{eqb}
-use Rattle.lists.specs.Tests.{pick, require, orNext}
-use Rattle.sets.specs.Masks.{has}
+use Rattle.lists.specs.Tests.{pick}
 use Rattle.parameters.specs.Definitions.{quorum, batch}
-use Rattle.records.specs.Bytes.{sender}
 use Rattle.records.specs.Tags.{tagOf}
-use Rattle.refusals.specs.Refusals.{setupRefusal, challengesRefusal, shiftedRefusal, responseRefusal}
+use Rattle.refusals.specs.Refusals.{setupRefusal, challengesRefusal, shiftedRefusal}
 use Rattle.dealing.specs.Definitions.{setupOf, begunBatch, dealingNumber, withDealing}
 use Rattle.complaint.specs.Definitions.{complaintNumber, withComplaint, complaintStage}
-use Rattle.response.specs.Definitions.{responseNumber, withResponse, signaturesOf}
+use Rattle.response.specs.Definitions.{untested, responseNumber, withResponse, signaturesOf}
 use Rattle.challenge.specs.Definitions.{withChallenges, withShifted}
 use Rattle.stages.specs.Definitions.{handlerAt, dealingStage, goNumber}
 use Rattle.run.specs.declared.Run.{Run}
@@ -102,9 +100,7 @@ untakenBy TakeGo r s = goNumber (r .setup .n) (r .setup .t) (r .dealings .count)
 untakenBy TakeComplaint r s = complaintNumber (r .setup) (r .dealings) (r .complaints) s
 untakenBy TakeChallenges r s = challengesRefusal (r .setup .a) (r .b) s
 untakenBy TakeShifted r s = shiftedRefusal (r .setup .a) (r .b) s
-untakenBy TakeResponse r s =
-    orNext (orNext (responseRefusal (r .setup .n) (r .b) s) (require (not (has (r .responses .responders) (sender s))) 12 0))
-    (require (has (r .complaints .holders) (sender s)) 14 0)
+untakenBy TakeResponse r s = untested (r .setup .n) (r .b) (r .responses .responders) (r .complaints .holders) s 0
 untakenBy (Refuse k) r s = k
 
 unfoldable pub untaken : Run → List ℕ → ℕ

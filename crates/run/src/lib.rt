@@ -339,9 +339,8 @@ impl Run {
             Handler::TakeChallenges => refusals::challenges_refusal(a, b, bytes),
             Handler::TakeShifted => refusals::shifted_refusal(a, b, bytes),
             Handler::TakeResponse => {
-                let number = refusals::response_refusal(n, b, bytes);
-                let sent = or_next(number, !sets::has(self.responses.responders, j), 12);
-                or_next(sent, sets::has(self.complaints.holders, j), 14)
+                let holders = self.complaints.holders;
+                response::untested(n, b, self.responses.responders, holders, bytes)
             }
             Handler::Refuse(number) => number,
         }

@@ -23,8 +23,8 @@ use Rattle.stages.specs.declared.Handler.{Handler}
 use Rattle.stages.specs.declared.Handler.the-variants.{TakeSetup, TakeWaiting, TakeDealing, TakeGo, TakeComplaint, TakeChallenges, TakeShifted, TakeResponse}
 use Rattle.run.specs.declared.Run.{Run}
 use Rattle.run.specs.declared.Reply.{Reply}
-use Rattle.run.specs.Runs.{begun, wellFormed, stageOf}
-use Rattle.run.specs.RunLaws.{stage-past}
+use Rattle.run.specs.Runs.{begun, stageOf}
+use Rattle.run.specs.RunLaws.{stage-least}
 use Rattle.run.specs.Steps.{afterSetup, afterDealing, afterGo, afterComplaint, afterChallenges, afterShifted, withRow, finished, afterResponse, answered, handled, stepOf, afterFrom}
 use Rattle.run.specs.StepLaws.{stage-case, answered-case}
 use Rattle.answers.specs.Answers.{badOf, unblamedOf, keptSets, setsOf}
@@ -54,10 +54,6 @@ pub record Late (r next : Run) : Type 0 where
   pub still : 3 ≤ stageOf next
   pub not-again : (next .stage ≡ 3) ⊎ (next .stage ≡ 6) → next .stage ≡ r .stage
 
--- a run that keeps stage 3 or more counts as one past stage 2, well formed or not
-stage-least : (r : Run) → 3 ≤ r .stage → 3 ≤ stageOf r
-stage-least r l = rw (stage-past r (λ e. absurd (omega arith))) (pick-case (λ (k : ℕ). 3 ≤ k) (wellFormed r) (r .stage) 6 (λ e. l) (λ e. omega arith))
-
 module _ (r : Run) (s : List ℕ) (l : 3 ≤ stageOf r) where
   abbrev LateReply : Reply → Type 0
   LateReply y = Late r (y .run)
@@ -72,7 +68,7 @@ module _ (r : Run) (s : List ℕ) (l : 3 ≤ stageOf r) where
         setup-same = e;
         dealings-same = d;
         complaints-same = c;
-        still = stage-least next (omega arith);
+        still = stage-least 3 next (omega arith) (omega arith) (omega arith);
         not-again = λ z. ⊎-elim (λ x. absurd (omega arith)) (λ x. absurd (omega arith)) z;
       }
 

@@ -1,382 +1,103 @@
--- `take_rows` meets its contract. The loop gives the rows to the run one by one, each tested against the values that were combined for those before it.
--- Assumes nothing.
+-- `take_rows` meets its contract: refused by the stage, then by the places of the list; else every row is given. Assumes nothing.
 use borrow.Author.Needs.{needs}
 use native.Mathlib.Omega.{arith}
-use mathlib.Core.Logic.{_⊎_, inl, inr, ⊎-elim}
-use mathlib.Core.Path.{_≡_, refl, sym, ap, ap₂, subst, subst⁻¹, _∙_}
-use mathlib.Core.Bool.{Bool, true, false}
+use mathlib.Core.Path.{_≡_, sym, ap, _∙_}
 use mathlib.Core.List.{List}
-use Prim.Native.Nat.{ℕ, _+_, _-_, _/_, _≤_, _<_}
-use lib.ListN.{length, take, drop, length-drop}
-use lib.Seq.{length-take-le}
-use Rattle.lists.specs.TestLaws.{fails-stays}
-use Rattle.parameters.specs.Definitions.{inBounds}
-use Rattle.parameters.specs.ParameterLaws.{bounds-test}
+use Prim.Native.Nat.{ℕ, _+_, _-_, _/_}
+use lib.ListN.{length}
 use Rattle.records.specs.Tags.{responseLength}
-use Rattle.verification.specs.Definitions.{rowPasses}
-use Rattle.field.specs.declared.Element.{Element}
-use Rattle.verification.specs.Tests.{qualValues}
-use Rattle.run.specs.declared.Run.{Run}
 use Rattle.run.specs.declared.Reply.{Reply}
 use Rattle.run.specs.Runs.{stageOf}
-use Rattle.run.specs.RunLaws.{Formed, formed-of, formed-batch, stage-live}
-use Rattle.run.specs.Steps.{stepOf, untaken, afterFrom, afterResponse}
-use Rattle.run.specs.RefusalLaws.{untaken-refused}
-use Rattle.bundle.specs.Bundles.{outcome, rowsOf, numbersFrom}
+use Rattle.bundle.specs.Bundles.{outcome, rowsOf}
 use Rattle.bundle.specs.BundleLaws.{rows-count, bundle-stage, bundle-places, bundle-given}
-use Rattle.bundle.specs.CutLaws.{left-is, cut, rowLength, row-is}
-use Rattle.bundle.specs.RowLaws.{stage-batch, Kept, kept-response, passesAt, same-test, only-row, row-taken, row-refused}
-use Rattle.bundle.proofs.Taking.{Taking, taking-start, taking-next, taking-run, taking-numbers}
 use Rattle.bundle.proofs.take_rows.Statement.{statement}
 use Rattle.bundle.proofs.take_rows.Tie as tie
-
-abbrev Inv-loop : tie.InvT-loop
-Inv-loop bytes numbers₀ b length count setup dealings complaints challenges ready₀ values₀ next₀ from₀ x₀ numbers ready values next from x =
-    (x ≤ count) × Taking next₀ bytes length count numbers next from x × (ready ≤ b) × (values ≡ qualValues setup dealings complaints ready)
-
-abbrev μ-loop : tie.MeasureT-loop
-μ-loop bytes numbers₀ b length count setup dealings complaints challenges ready₀ values₀ next₀ from₀ x₀ numbers ready values next from x =
-    count - x
 
 -- what a reply leaves, with a list
 left-as : {y z : Reply} → y ≡ z → (list : List ℕ) → outcome (y .run) (y .number) list ≡ outcome (z .run) (z .number) list
 left-as e list = ap (λ (y : Reply). outcome (y .run) (y .number) list) e
 
--- ---- what is known before the rows
-
-abbrev sized : tie.After-challenges Inv-loop μ-loop → tie.After-response-length Inv-loop μ-loop
-sized n = n .before .before .before .before .before
-
-abbrev start : tie.After-challenges Inv-loop μ-loop → tie.Start Inv-loop μ-loop
-start n = sized n .before .before .before .before .before
-
 -- the run is at stage 4
-at-four : (c : tie.Else1 Inv-loop μ-loop) → stageOf (c .before .before .before .before .args .run) ≡ 4
+at-four : (c : tie.Else1) → stageOf (c .before .before .before .before .args .run) ≡ 4
 at-four c =
     let at : c .before .stage-of .result ≡ 4 = omega (arith, c .if1 .left) in
     sym (c .before .stage-of .ensures) ∙ at
 
-staged : (n : tie.After-challenges Inv-loop μ-loop) → stageOf (start n .args .run) ≡ 4
-staged n = at-four (sized n .before)
-
 -- the rows as the code counts them
-counted : (c : tie.After-response-length Inv-loop μ-loop) →
+counted : (c : tie.After-response-length) →
     let a = c .before .before .before .before .before .args in
     length (rowsOf (a .run .b) (a .bytes .now)) ≡ (length (a .bytes .now) + (c .response-length .result - 1)) / c .response-length .result
 counted c =
     let a = c .before .before .before .before .before .args in
     rows-count (a .run .b) (a .bytes .now) ∙ ap (λ (k : ℕ). (length (a .bytes .now) + (k - 1)) / k) (sym (c .response-length .ensures))
 
-formed : (n : tie.After-challenges Inv-loop μ-loop) → Formed (start n .args .run)
-formed n = formed-of (start n .args .run) (stage-live (start n .args .run) 4 (staged n) (omega arith) (omega arith) .1)
-
--- a row has bytes
-some-bytes : (c : tie.After-response-length Inv-loop μ-loop) → 0 < c .response-length .result
-unfolding responseLength
-some-bytes c = omega (arith, c .response-length .ensures)
-
--- ---- the next row
-
-measured : (j : tie.Joined3 Inv-loop μ-loop) →
-    let l = j .before .before .before in
-    j .if3 .size ≡ rowLength (sized (l .before .before) .response-length .result) (drop (l .loop .from) (start (l .before .before) .args .bytes .now))
-measured j =
-    let l = j .before .before .before in
-    let long = length-drop (l .loop .from) (start (l .before .before) .args .bytes .now) in
-    ⊎-elim (λ w. w .1 ∙ omega (arith, w .0 .taken, long)) (λ w. w .1 ∙ omega (arith, w .0 .left, long)) (j .if3 .came)
-
--- the row as it is cut
-abbrev rowAt : tie.At-loop Inv-loop μ-loop → List ℕ
-rowAt l = take (sized (l .before .before) .response-length .result) (drop (l .loop .from) (start (l .before .before) .args .bytes .now))
-
-lent : (j : tie.Joined3 Inv-loop μ-loop) →
-    let l = j .before .before .before in
-    let s = start (l .before .before) .args .bytes .now in
-    take (j .if3 .size) (take (length s - l .loop .from) (drop (l .loop .from) s)) ≡ rowAt l
-lent j =
-    let l = j .before .before .before in
-    let s = start (l .before .before) .args .bytes .now in
-    ap₂ (λ (n : ℕ) (t : List ℕ). take n t) (measured j) (left-is s (l .loop .from)) ∙ row-is (sized (l .before .before) .response-length .result) (drop (l .loop .from) s)
-
-asked : (u : tie.After-row-refusal Inv-loop μ-loop) →
-    let l = u .before .before .before .before .before in
-    u .row-refusal .result ≡ untaken (l .loop .next) (rowAt l)
-asked u =
-    let l = u .before .before .before .before .before in
-    u .row-refusal .ensures ∙ ap (untaken (l .loop .next)) (lent (u .before .before))
-
--- ---- the test
-
--- the test of as many numbers as values are ready for is that of the definition
-abbrev readyPasses : tie.At-loop Inv-loop μ-loop → ℕ → Bool
-readyPasses l k =
-    let r = start (l .before .before) .args .run in
-    rowPasses k (r .setup) (r .dealings) (r .complaints) (r .challenges) (rowAt l)
-
-abbrev readyValues : tie.At-loop Inv-loop μ-loop → ℕ → List Element
-readyValues l k =
-    let r = start (l .before .before) .args .run in
-    qualValues (r .setup) (r .dealings) (r .complaints) k
-
--- the row as it is lent, tested as it is cut
-as-cut : (h : tie.After-holder-of Inv-loop μ-loop) (k : ℕ) →
-    let j = h .before .before .before .before in
-    let l = j .before .before .before in
-    let s = start (l .before .before) .args .bytes .now in
-    let r = start (l .before .before) .args .run in
-    rowPasses k (r .setup) (r .dealings) (r .complaints) (r .challenges) (take (j .if3 .size) (take (length s - l .loop .from) (drop (l .loop .from) s))) ≡ readyPasses l k
-as-cut h k =
-    let j = h .before .before .before .before in
-    let l = j .before .before .before in
-    let r = start (l .before .before) .args .run in
-    ap (λ (t : List ℕ). rowPasses k (r .setup) (r .dealings) (r .complaints) (r .challenges) t) (lent j)
-
-first-tested : (t : tie.After-test-row Inv-loop μ-loop) → let l = t .before .before .before .before .before .before .before .before .before in
-    t .test-row .result ≡ readyPasses l (l .loop .ready)
-first-tested t =
-    let h = t .before .before in
-    let l = h .before .before .before .before .before .before .before in
-    let r = start (l .before .before) .args .run in
-    t .test-row .ensures (r .dealings) (r .complaints) (r .challenges) refl (l .loop .inv .3) ∙ as-cut h (l .loop .ready)
-
--- the values are ready for every u, or the row fails by those that are
-extended : (e : tie.Joined5 Inv-loop μ-loop) → let l = e .before .before .before .before .before .before .before .before in
-    let r = start (l .before .before) .args .run in
-    (e .if5 .ready ≤ r .b) × (e .if5 .values ≡ readyValues l (e .if5 .ready)) × ((e .if5 .ready ≡ r .b) ⊎ (readyPasses l (e .if5 .ready) ≡ false))
-extended e =
-    let h = e .before in
-    let l = h .before .before .before .before .before .before .before in
-    let known = l .loop .inv in
-    ⊎-elim
-    (λ w. (omega (arith, w .4), w .5 ∙ w .3 .ensures ∙ ap (readyValues l) (sym (w .4)), inl (w .4)))
-    (⊎-elim
-    (λ w. (
-      omega (arith, w .3, known .2),
-      w .4 ∙ known .3 ∙ ap (readyValues l) (sym (w .3)),
-      inr (ap (readyPasses l) (w .3) ∙ sym (first-tested (record { before = record { before = h; if5 = w .0 }; test-row = w .1 })) ∙ w .2 .left),
-    ))
-    (λ w. (omega (arith, w .1, known .2), w .2 ∙ known .3 ∙ ap (readyValues l) (sym (w .1)), inl (omega (arith, w .0 .left, w .1, known .2)))))
-    (e .if5 .came)
-
-tested : (t : tie.After-test-row2 Inv-loop μ-loop) → let l = t .before .before .before .before .before .before .before .before .before in
-    t .test-row2 .result ≡ passesAt (l .loop .next) (rowAt l)
-tested t =
-    let e = t .before in
-    let h = e .before in
-    let l = h .before .before .before .before .before .before .before in
-    let r = start (l .before .before) .args .run in
-    let more = extended e in
-    let ready = e .if5 .ready in
-    let answer : t .test-row2 .result ≡ readyPasses l ready = t .test-row2 .ensures (r .dealings) (r .complaints) (r .challenges) refl (more .1) ∙ as-cut h ready in
-    let kept = l .loop .inv .1 .kept in
-    answer
-    ∙ ⊎-elim (λ whole. ap (readyPasses l) whole) (λ fails. fails ∙ sym (fails-stays _ ready (r .b) (more .0) fails)) (more .2)
-    ∙ ap (readyPasses l) (sym (kept .b-same))
-    ∙ same-test kept (rowAt l)
-
--- where the three ways meet, number and run are those of the step
-answered-row : (k : tie.Joined4 Inv-loop μ-loop) →
-    let l = k .before .before .before .before .before .before in
-    let r = start (l .before .before) .args .run in
-    (stepOf (l .loop .next) (rowAt l) ≡ record { run = k .if4 .next; number = k .if4 .number })
-    × Kept r (k .if4 .next) × (k .if4 .ready ≤ r .b) × (k .if4 .values ≡ readyValues l (k .if4 .ready))
-answered-row k =
-    let u = k .before in
-    let l = u .before .before .before .before .before in
-    let r = l .loop .next in
-    let kept = l .loop .inv .1 .kept in
-    ⊎-elim
-    (λ w.
-    let e : tie.Joined5 Inv-loop μ-loop = record { before = record { before = record { before = u; if4 = w .0 }; holder-of = w .1 }; if5 = w .2 } in
-    let none = sym (asked u) ∙ w .0 .taken in
-    let next : k .if4 .next ≡ afterResponse r (rowAt l) = w .8 ∙ w .5 .ensures ∙ ap (afterResponse r) (lent (u .before .before)) in (
-      row-taken r (rowAt l) (kept .late) none (sym (tested (record { before = e; test-row2 = w .3 })) ∙ w .4 .taken) ∙ reply (sym next) (sym (w .9 ∙ w .0 .taken)),
-      subst⁻¹ (Kept _) next (kept-response kept (rowAt l)),
-      omega (arith, w .6, extended e .0),
-      w .7 ∙ extended e .1 ∙ ap (readyValues l) (sym (w .6)),
-    ))
-    (⊎-elim
-    (λ w.
-    let e : tie.Joined5 Inv-loop μ-loop = record { before = record { before = record { before = u; if4 = w .0 }; holder-of = w .1 }; if5 = w .2 } in
-    let none = sym (asked u) ∙ w .0 .taken in (
-      row-refused r (rowAt l) (kept .late) none (sym (tested (record { before = e; test-row2 = w .3 })) ∙ w .4 .left) ∙ reply (sym (w .7)) (sym (w .8)),
-      subst⁻¹ (Kept _) (w .7) kept,
-      omega (arith, w .5, extended e .0),
-      w .6 ∙ extended e .1 ∙ ap (readyValues l) (sym (w .5)),
-    ))
-    (λ w. (
-      untaken-refused r (rowAt l) (λ e. w .0 .left (asked u ∙ e)) ∙ reply (sym (w .3)) (sym (w .4 ∙ asked u)),
-      subst⁻¹ (Kept _) (w .3) kept,
-      omega (arith, w .1, l .loop .inv .2),
-      w .2 ∙ l .loop .inv .3 ∙ ap (readyValues l) (sym (w .1)),
-    )))
-    (k .if4 .came)
-  where
-    reply : {y z : Run} {m n : ℕ} → y ≡ z → m ≡ n → _≡_ {A = Reply} (record { run = y; number = m }) (record { run = z; number = n })
-    reply e f = ap₂ (λ (x : Run) (i : ℕ). record { run = x; number = i }) e f
-
--- ---- the needs
-
-stage-of-requires : tie.Need-stage-of-requires Inv-loop μ-loop
+stage-of-requires : tie.Need-stage-of-requires
 stage-of-requires c κs = search needs
 
-answer-requires : tie.Need-answer-requires Inv-loop μ-loop
+answer-requires : tie.Need-answer-requires
 answer-requires c κs = search needs
 
-returns : tie.Need-returns Inv-loop μ-loop
+returns : tie.Need-returns
 returns c =
     let asked = c .before .before in
     let a = asked .before .before .before .args in
     left-as (c .answer .ensures) (a .numbers .now) ∙ sym (bundle-stage (a .run) (a .bytes .now) (a .numbers .now) (λ e. c .before .if1 .taken (asked .stage-of .ensures ∙ e)))
 
-response-length-requires : tie.Need-response-length-requires Inv-loop μ-loop
+response-length-requires : tie.Need-response-length-requires
 response-length-requires c κs = search needs
 
-sub-if2 : tie.Need-sub-if2 Inv-loop μ-loop
+sub-if2 : tie.Need-sub-if2
 unfolding responseLength
 sub-if2 c = omega (arith, c .response-length .ensures)
 
-add-if2 : tie.Need-add-if2 Inv-loop μ-loop
+add-if2 : tie.Need-add-if2
 unfolding responseLength
 add-if2 c =
     let start = c .before .before .before .before .before in
     omega (arith, c .response-length .ensures, start .good .1 .0 .0)
 
-div-if2 : tie.Need-div-if2 Inv-loop μ-loop
+div-if2 : tie.Need-div-if2
 unfolding responseLength
 div-if2 c = omega (arith, c .response-length .ensures)
 
-answer-requires-2 : tie.Need-answer-requires-2 Inv-loop μ-loop
+answer-requires-2 : tie.Need-answer-requires-2
 answer-requires-2 c κs = search needs
 
-returns-2 : tie.Need-returns-2 Inv-loop μ-loop
+returns-2 : tie.Need-returns-2
 returns-2 c =
     let m = c .before .before in
     let a = m .before .before .before .before .before .args in
     left-as (c .answer2 .ensures) (a .numbers .now) ∙ sym (bundle-places (a .run) (a .bytes .now) (a .numbers .now) (at-four (m .before)) (λ e. c .before .if2 .taken (e ∙ counted m)))
 
-qual-values-requires : tie.Need-qual-values-requires Inv-loop μ-loop
-qual-values-requires c κs =
-    let f = formed c in
-    (bounds-test (f .bounds), omega (arith, formed-batch f, stage-batch (start c .args .run) (staged c)))
+-- one place a row
+placed : (c : tie.Else2) →
+    let a = c .before .before .before .before .before .before .args in
+    length (a .numbers .now) ≡ length (rowsOf (a .run .b) (a .bytes .now))
+placed c = c .if2 .left ∙ sym (counted (c .before))
 
-loop-holds : tie.Need-loop-holds Inv-loop μ-loop
-loop-holds c =
-    let n = c .before in
-    (omega arith, taking-start _ _ _ _ _ (staged n) (some-bytes (sized n)) refl (omega arith), stage-batch (start n .args .run) (staged n), c .qual-values .ensures)
+give-rows-requires : tie.Need-give-rows-requires
+give-rows-requires c κs = (at-four (c .before .before .before), placed (c .before))
 
-sub-rest : tie.Need-sub-rest Inv-loop μ-loop
-sub-rest c = c .before .loop .inv .1 .within
-
-part-rest-start : tie.Need-part-rest-start Inv-loop μ-loop
-part-rest-start c = c .before .loop .inv .1 .within
-
-part-rest-end : tie.Need-part-rest-end Inv-loop μ-loop
-part-rest-end c = omega arith
-
-slice-aggregate-row : tie.Need-slice-aggregate-row Inv-loop μ-loop
-slice-aggregate-row c =
-    let j = c .before in
-    let l = j .before .before .before in
-    let s = start (l .before .before) .args .bytes .now in
-    rw (left-is s (l .loop .from)) (sym (length-take-le (j .if3 .size) (drop (l .loop .from) s) (omega (arith, measured j))))
-
-row-refusal-requires : tie.Need-row-refusal-requires Inv-loop μ-loop
-row-refusal-requires c κs = c .before .before .before .before .loop .inv .1 .kept .late
-
-holder-of-requires : tie.Need-holder-of-requires Inv-loop μ-loop
-holder-of-requires c κs = bounds-test (formed (c .before .before .before .before .before .before .before .before) .bounds)
-
--- what the test asks
-testable : (h : tie.After-holder-of Inv-loop μ-loop) {k : ℕ} → let n = h .before .before .before .before .before .before .before .before .before in
-    let r = start n .args .run in
-    k ≤ r .b → (inBounds (r .setup .n) (r .setup .t) (r .setup .a) ≡ true) × (k ≤ r .setup .n)
-testable h l =
-    let f = formed (h .before .before .before .before .before .before .before .before .before) in
-    (bounds-test (f .bounds), omega (arith, formed-batch f, l))
-
-test-row-requires : tie.Need-test-row-requires Inv-loop μ-loop
-test-row-requires c κs =
-    let h = c .before in
-    let l = h .before .before .before .before .before .before .before in
-    let asked = testable h (l .loop .inv .2) in
-    (asked .0, asked .1, h .holder-of .ensures)
-
-qual-values-requires-2 : tie.Need-qual-values-requires-2 Inv-loop μ-loop
-qual-values-requires-2 c κs = testable (c .before .before .before) (omega arith)
-
-test-row-requires-2 : tie.Need-test-row-requires-2 Inv-loop μ-loop
-test-row-requires-2 c κs =
-    let asked = testable (c .before) (extended c .0) in
-    (asked .0, asked .1, c .before .holder-of .ensures)
-
-with-response-requires : tie.Need-with-response-requires Inv-loop μ-loop
-with-response-requires c κs =
-    let t = c .before .before .before .before in
-    let u = t .before in
-    let l = u .before .before .before .before .before in
-    stage-live (l .loop .next) 4 (only-row (l .loop .next) _ (l .loop .inv .1 .kept .late) (sym (asked u) ∙ t .if4 .taken) .0) (omega arith) (omega arith) .1
-
-slice-write-numbers : tie.Need-slice-write-numbers Inv-loop μ-loop
-slice-write-numbers c =
-    let i = c .before .before .before .before .before in
-    omega (arith, i .before .loop .inv .1 .places, i .loop-test .taken)
-
-add-from : tie.Need-add-from Inv-loop μ-loop
-add-from c =
-    let j = c .before .before .before .before in
-    let l = j .before .before .before in
-    let start = start (l .before .before) in
-    omega (arith, measured j, l .loop .inv .1 .within, length-drop (l .loop .from) (start .args .bytes .now), start .good .1 .0 .0)
-
-add-x : tie.Need-add-x Inv-loop μ-loop
-add-x c = search needs
-
-loop-less : tie.Need-loop-less Inv-loop μ-loop
-loop-less c = search needs
-
-loop-again : tie.Need-loop-again Inv-loop μ-loop
-loop-again c =
-    let k = c .before in
-    let j = k .before .before .before in
-    let i = j .before .before in
-    let l = i .before in
-    let now = answered-row k in (
-      omega (arith, i .loop-test .taken),
-      taking-next (some-bytes (sized (l .before .before))) (l .loop .inv .1) (i .loop-test .taken) (measured j) (now .0) (now .1) refl,
-      now .2,
-      now .3,
-    )
-
-answer-requires-3 : tie.Need-answer-requires-3 Inv-loop μ-loop
+answer-requires-3 : tie.Need-answer-requires-3
 answer-requires-3 c κs = search needs
 
-same-length : tie.Need-same-length Inv-loop μ-loop
-same-length c = c .before .before .loop .inv .1 .places
+same-length : tie.Need-same-length
+same-length c = c .before .before .before .give-rows .kept .1 .1 .0
 
-returns-3 : tie.Need-returns-3 Inv-loop μ-loop
-unfolding rowsOf
+returns-3 : tie.Need-returns-3
 returns-3 c =
-    let end-of = c .before in
-    let l = end-of .before in
-    let n = l .before .before in
-    let m = sized n in
-    let a = start n .args in
-    let end : length (a .numbers .now) ≤ l .loop .x = omega (arith, end-of .loop-test .left) in
-    let size = m .response-length .ensures in
-    let rows : cut (m .response-length .result) (a .bytes .now) ≡ rowsOf (a .run .b) (a .bytes .now) = ap (λ (k : ℕ). cut k (a .bytes .now)) size in
-    left-as (c .answer3 .ensures) (l .loop .numbers)
-    ∙ ap₂ (λ (z : Run) (t : List ℕ). outcome z 0 t)
-    (taking-run (some-bytes m) (l .loop .inv .1) end ∙ ap (afterFrom (a .run)) rows)
-    (taking-numbers (some-bytes m) (l .loop .inv .1) end ∙ ap (numbersFrom (a .run)) rows)
-    ∙ sym (bundle-given (a .run) (a .bytes .now) (a .numbers .now) (staged n) (n .before .before .before .before .if2 .left ∙ sym (counted m)))
+    let g = c .before .before .before in
+    let e = g .before .before in
+    let m = e .before in
+    let a = m .before .before .before .before .before .args in
+    left-as (c .answer3 .ensures) (g .give-rows .last .1 .1 .0)
+    ∙ g .give-rows .ensures
+    ∙ sym (bundle-given (a .run) (a .bytes .now) (a .numbers .now) (at-four (m .before)) (placed e))
 
 pub take-rows-spec : {M : Type 1} → statement M
 take-rows-spec =
     tie.close
     (tie.spec
-    Inv-loop
-    μ-loop
     stage-of-requires
     answer-requires
     returns
@@ -386,23 +107,7 @@ take-rows-spec =
     div-if2
     answer-requires-2
     returns-2
-    qual-values-requires
-    loop-holds
-    sub-rest
-    part-rest-start
-    part-rest-end
-    slice-aggregate-row
-    row-refusal-requires
-    holder-of-requires
-    test-row-requires
-    qual-values-requires-2
-    test-row-requires-2
-    with-response-requires
-    slice-write-numbers
-    add-from
-    add-x
-    loop-less
-    loop-again
+    give-rows-requires
     answer-requires-3
     same-length
     returns-3)

@@ -98,20 +98,8 @@ shifted-refusal-requires c κs = search needs
 enum-told-8 : tie.Need-enum-told-8
 enum-told-8 c = search needs
 
-response-refusal-requires : tie.Need-response-refusal-requires
-response-refusal-requires c κs = search needs
-
-has-requires-3 : tie.Need-has-requires-3
-has-requires-3 c κs = search needs
-
-or-next-requires-4 : tie.Need-or-next-requires-4
-or-next-requires-4 c κs = search needs
-
-has-requires-4 : tie.Need-has-requires-4
-has-requires-4 c κs = search needs
-
-or-next-requires-5 : tie.Need-or-next-requires-5
-or-next-requires-5 c κs = search needs
+untested-requires : tie.Need-untested-requires
+untested-requires c κs = search needs
 
 enum-known-handler : tie.Need-enum-known-handler
 enum-known-handler c = search needs
@@ -159,14 +147,7 @@ returns-7 c = c .shifted-refusal .ensures ∙ answer (c .before .before .before)
 
 returns-8 : tie.Need-returns-8
 unfolding untakenBy
-returns-8 c =
-    let sent = c .before .before in
-    let refusal = sent .before .before in
-    let told = refusal .before in
-    let taken = told .before .before in
-    c .or-next5 .ensures
-    ∙ rw (sent .or-next4 .ensures, refusal .response-refusal .ensures, sent .before .has3 .ensures, c .before .has4 .ensures, taken .before .before .before .byte .ensures)
-    (answer taken (told .enum-told8 .given .1))
+returns-8 c = c .untested .ensures ∙ answer (c .before .before .before) (c .before .enum-told8 .given .1)
 
 returns-9 : tie.Need-returns-9
 unfolding untakenBy
@@ -202,11 +183,7 @@ untaken-spec =
     enum-told-7
     shifted-refusal-requires
     enum-told-8
-    response-refusal-requires
-    has-requires-3
-    or-next-requires-4
-    has-requires-4
-    or-next-requires-5
+    untested-requires
     enum-known-handler
     returns
     returns-2
