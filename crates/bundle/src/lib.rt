@@ -57,13 +57,13 @@ fn give_rows(run: Run, bytes: &[u8], numbers: &mut [u8]) -> Run
             let holder = verification::holder_of(setup, row);
             // the values for every u, once a row passes for the first
             if ready < b {
-                if verification::test_row(ready, setup, holder, challenges, values, row) {
+                if verification::test_row(0, ready, setup, holder, challenges, values, row) {
                     let all = verification::qual_values(setup, dealings, complaints, b);
                     values = all;
                     ready = b;
                 }
             }
-            if verification::test_row(ready, setup, holder, challenges, values, row) {
+            if verification::test_row(0, ready, setup, holder, challenges, values, row) {
                 let taken = next.with_response(row);
                 next = taken;
             } else {

@@ -1,6 +1,7 @@
 -- The committed values combined for u, from their powers raised step by step. Assumes nothing.
 use mathlib.Core.Path.{_≡_, refl, sym, ap, _∙_}
 use mathlib.Core.Bool.{Bool}
+use mathlib.Core.Logic.{_⊎_, inl, inr}
 use mathlib.Core.List.{List}
 use Prim.Native.Nat.{ℕ, zero, suc, _+_, _*_, _-_, _/_, _^_, _≤_, _<_, min}
 use native.Mathlib.Nat.{pow-zero, pow-suc}
@@ -28,6 +29,16 @@ powers-none n list = refl
 pub powers-next : (n : ℕ) (list : List Element) (u : ℕ) {powers next : List Element} → powers ≡ powersAt n list u → next ≡ raised n powers → next ≡ powersAt n list (u + 1)
 unfolding powersAt
 powers-next n list u e f = f ∙ ap (raised n) e ∙ ap (powersAt n list) (sym (add-one u))
+
+-- the powers for u + 1 from those for u, which are raised but for the first
+pub powers-for : (n : ℕ) (list : List Element) (u : ℕ) {powers next : List Element} → powers ≡ powersAt n list (u - 1)
+    → ((0 < u) × (next ≡ raised n powers)) ⊎ ((u ≤ 0) × (next ≡ powers)) → next ≡ powersAt n list u
+powers-for n list u e (inl (l, f)) =
+    let before : u - 1 + 1 ≡ u = omega arith in
+    powers-next n list (u - 1) e f ∙ ap (powersAt n list) before
+powers-for n list u e (inr (l, f)) =
+    let none : u - 1 ≡ u = omega arith in
+    f ∙ e ∙ ap (powersAt n list) none
 
 -- a value to the power of its dealer's number, past the array's end too
 raised-getD : (n : ℕ) (list : List Element) (p : ℕ) → p < n * stride → getD (raised n list) p identity ≡ powered (getD list p identity) (p / stride + 1)

@@ -2,16 +2,19 @@
 use mathlib.Core.Path.{_≡_, refl, sym, ap, _∙_}
 use mathlib.Core.Logic.{_⊎_, inl, inr, ⊎-elim}
 use mathlib.Core.List.{List}
-use Prim.Native.Nat.{ℕ, zero, suc, _+_, _*_, _<_}
+use Prim.Native.Nat.{ℕ, zero, suc, _+_, _*_, _-_, _≤_, _<_}
 use native.Mathlib.Numerals.{add-one}
 use native.Mathlib.Omega.{arith}
 use native.Mathlib.Decide.{decLt}
 use lib.ListN.{length, getD, replicate}
 use Rattle.lists.specs.Stores.{stored, filled}
 use Rattle.lists.specs.StoreLaws.{length-stored, length-filled, stored-at, stored-other, getD-default}
+use Rattle.sets.specs.Masks.{has}
 use Rattle.field.specs.declared.Element.{Element}
 use Rattle.field.specs.Definitions.{identity}
 use Rattle.parameters.specs.Definitions.{mostParties, stride, places}
+use Rattle.combination.specs.Combination.{powersAt}
+use Rattle.combination.specs.PowerLaws.{combined-powers}
 use Rattle.combination.specs.Tables.{valuesAt, tableTo}
 
 module _ (n qual quorum : ℕ) (list : List Element) where
@@ -20,13 +23,20 @@ module _ (n qual quorum : ℕ) (list : List Element) where
   unfolding tableTo filled
   table-none = refl
 
-  pub table-next : (k : ℕ) {values row : List Element} → values ≡ tableTo n qual quorum list k → row ≡ valuesAt n qual quorum list (k + 1)
+  table-next : (k : ℕ) {values row : List Element} → values ≡ tableTo n qual quorum list k → row ≡ valuesAt n qual quorum list (k + 1)
       → stored values (k * stride) stride (λ v. getD row v identity) ≡ tableTo n qual quorum list (k + 1)
   unfolding tableTo
   table-next k {values} {row} e f =
       ap (λ (t : List Element). stored t (k * stride) stride (λ v. getD row v identity)) e
       ∙ ap (λ (t : List Element). stored (tableTo n qual quorum list k) (k * stride) stride (λ v. getD t v identity)) f
       ∙ ap (tableTo n qual quorum list) (sym (add-one k))
+
+  -- from the powers for the next u
+  pub table-more : (k : ℕ) {values powers : List Element} → quorum ≤ stride → values ≡ tableTo n qual quorum list k → powers ≡ powersAt n list k
+      → stored values (k * stride) stride (λ v. getD (valuesAt n qual quorum powers 1) v identity) ≡ tableTo n qual quorum list (k + 1)
+  table-more k l e p =
+      let same : k ≡ k + 1 - 1 = omega arith in
+      table-next k e (combined-powers n (has qual) list (k + 1) quorum l same p refl)
 
   table-length : (k : ℕ) → length (tableTo n qual quorum list k) ≡ places
   unfolding tableTo

@@ -1,12 +1,15 @@
 // The committed values of a set of dealers, combined for each u: one product over the set, raised step by step.
 ghost use mathlib.Core.Path.{_≡_};
-ghost use Prim.Native.Nat.{_+_, _-_, _≤_};
+ghost use Prim.Native.Nat.{_+_, _*_, _-_, _≤_, _<_};
+ghost use lib.ListN.{getD};
+ghost use Rattle.lists.specs.Stores.{stored};
 ghost use Rattle.sets.specs.Masks.{has};
+ghost use Rattle.field.specs.Definitions.{identity};
 ghost use Rattle.protocol.specs.Transcript.{coefficient};
 ghost use Rattle.arrays.specs.Arrays.{commitmentIn, elements};
-ghost use Rattle.parameters.specs.Definitions.{mostParties};
+ghost use Rattle.parameters.specs.Definitions.{mostParties, stride};
 ghost use Rattle.combination.specs.Combination.{combinedValue, raised, powersAt};
-ghost use Rattle.combination.specs.Tables.{tableTo};
+ghost use Rattle.combination.specs.Tables.{valuesAt, tableTo};
 use field::Element;
 use field::Scalar;
 use parameters::MOST_PARTIES;
@@ -81,6 +84,27 @@ pub fn combined_values(powers: [Element; PLACES], qual: u64, n: u8, quorum: u8) 
     values
 }
 
+// The values with those of a set of dealers for one u more, from its powers: u stands for the place, counted from 0.
+pub fn with_values(
+    values: [Element; PLACES],
+    powers: [Element; PLACES],
+    n: u8,
+    qual: u64,
+    quorum: u8,
+    u: u8,
+) -> [Element; PLACES]
+    requires { ⌜ u < mostParties ⌝ }
+    ensures { λ r. ⌜ r ≡ stored values (u * stride) stride (λ v. getD (valuesAt n qual quorum powers 1) v identity) ⌝ }
+{
+    let row = combined_values(powers, qual, n, quorum);
+    let first = u as usize * STRIDE;
+    let mut next = values;
+    for v in 0..STRIDE {
+        next[first + v] = row[v];
+    }
+    next
+}
+
 // The values of a set of dealers, combined for u from 1 to count: those for u from (u - 1) × STRIDE on.
 pub fn table(list: [Element; PLACES], n: u8, qual: u64, quorum: u8, count: u8) -> [Element; PLACES]
     requires { ⌜ (count ≤ mostParties) × (quorum ≤ mostParties) ⌝ }
@@ -93,11 +117,8 @@ pub fn table(list: [Element; PLACES], n: u8, qual: u64, quorum: u8, count: u8) -
             let more = raised(powers, n);
             powers = more;
         }
-        let row = combined_values(powers, qual, n, quorum);
-        let first = u as usize * STRIDE;
-        for v in 0..STRIDE {
-            values[first + v] = row[v];
-        }
+        let next = with_values(values, powers, n, qual, quorum, u);
+        values = next;
     }
     values
 }

@@ -3,15 +3,15 @@ use mathlib.Core.Path.{_≡_, refl, sym, ap, ap₂, subst⁻¹, _∙_}
 use mathlib.Core.Bool.{Bool, true, false}
 use mathlib.Core.Logic.{_≢_}
 use mathlib.Core.List.{List, [], _∷_, _++_, append-assoc, append-nil}
-use Prim.Native.Nat.{ℕ, zero, suc, _+_, _*_, _-_, _≤_, _<_, min}
+use Prim.Native.Nat.{ℕ, zero, suc, _+_, _*_, _-_, _/_, _≤_, _<_, min}
 use native.Mathlib.Nat.{zero-mul, suc-mul, add-zero, le-mul-of-pos-right}
 use native.Mathlib.Numerals.{add-one}
 use native.Mathlib.Omega.{arith}
 use native.Mathlib.Decide.{decLe}
 use lib.ListN.{length, getD, take, drop, length-take, length-drop}
 use lib.Seq.{take-all, take-take, take-suc, drop-drop, length-take-le}
-use lib.Dec.{eqb}
-use borrow.Author.Tests.{eqb-true, ne-eqb, le-leb}
+use lib.Dec.{eqb, ltb}
+use borrow.Author.Tests.{eqb-true, eq-eqb, ne-eqb, le-leb, lt-ltb, le-ltb}
 use Rattle.lists.specs.Tests.{pick}
 use Rattle.lists.specs.TestLaws.{pick-case, no-both}
 use Rattle.parameters.specs.Definitions.{quorum}
@@ -249,18 +249,35 @@ module _ (b : ℕ) where
 -- some are ahead at stage 4 alone
 pub rows-some : (r : Run) (s : List ℕ) → 0 < rowsAhead r s → (stageOf r ≡ 4) × (rowsAhead r s ≡ stretchOf mostRows (responseLength (r .b)) s)
 unfolding rowsAhead
-rows-some r s = go (eqb (stageOf r) 4) refl
-  where
-    go : (c : Bool) → eqb (stageOf r) 4 ≡ c → 0 < pick c (stretchOf mostRows (responseLength (r .b)) s) 0
-        → (stageOf r ≡ 4) × (pick c (stretchOf mostRows (responseLength (r .b)) s) 0 ≡ stretchOf mostRows (responseLength (r .b)) s)
-    go true e p = (eqb-true (stageOf r) 4 e, refl)
-    go false e p = absurd (omega arith)
+rows-some r s =
+    let rows = stretchOf mostRows (responseLength (r .b)) s in
+    pick-case (λ (k : ℕ). 0 < k → (stageOf r ≡ 4) × (k ≡ rows)) (eqb (stageOf r) 4) (pick (ltb (r .b / 2) rows) rows 0) 0
+    (λ e.
+    pick-case (λ (k : ℕ). 0 < k → (stageOf r ≡ 4) × (k ≡ rows)) (ltb (r .b / 2) rows) rows 0 (λ f p. (eqb-true (stageOf r) 4 e, refl)) (λ f p. absurd (omega arith)))
+    (λ e p. absurd (omega arith))
+
+-- case by case
+pub rows-elsewhere : (r : Run) (s : List ℕ) → (stageOf r ≡ 4 → ⊥) → rowsAhead r s ≡ 0
+unfolding rowsAhead
+rows-elsewhere r s n = rw (ne-eqb (stageOf r) 4 n)
+
+module _ (r : Run) (s : List ℕ) (e : stageOf r ≡ 4) where
+  pub rows-few : stretchOf mostRows (responseLength (r .b)) s ≤ r .b / 2 → rowsAhead r s ≡ 0
+  unfolding rowsAhead
+  rows-few l = rw (eq-eqb (stageOf r) 4 e, le-ltb (r .b / 2) (stretchOf mostRows (responseLength (r .b)) s) l)
+
+  pub rows-many : r .b / 2 < stretchOf mostRows (responseLength (r .b)) s → rowsAhead r s ≡ stretchOf mostRows (responseLength (r .b)) s
+  unfolding rowsAhead
+  rows-many l = rw (eq-eqb (stageOf r) 4 e, lt-ltb (r .b / 2) (stretchOf mostRows (responseLength (r .b)) s) l)
 
 -- and no more than are given in one call
 pub rows-max : (r : Run) (s : List ℕ) → rowsAhead r s ≤ mostRows
 unfolding rowsAhead
 rows-max r s =
-    pick-case (λ (k : ℕ). k ≤ mostRows) (eqb (stageOf r) 4) (stretchOf mostRows (responseLength (r .b)) s) 0 (λ e. stretch-max (r .b) mostRows s) (λ e. omega arith)
+    let rows = stretchOf mostRows (responseLength (r .b)) s in
+    pick-case (λ (k : ℕ). k ≤ mostRows) (eqb (stageOf r) 4) (pick (ltb (r .b / 2) rows) rows 0) 0
+    (λ e. pick-case (λ (k : ℕ). k ≤ mostRows) (ltb (r .b / 2) rows) rows 0 (λ f. stretch-max (r .b) mostRows s) (λ f. omega arith))
+    (λ e. omega arith)
 
 -- ---- a turn of a log: its next records are given to the run, l of them, which take n bytes
 

@@ -1,9 +1,9 @@
 -- Consecutive response rows of a log, which a run at stage 4 is given in one call.
-use Prim.Native.Nat.{ℕ, zero, suc, _+_}
+use Prim.Native.Nat.{ℕ, zero, suc, _+_, _/_}
 use mathlib.Core.Bool.{Bool}
 use mathlib.Core.List.{List, [], _∷_, _++_}
 use lib.ListN.{drop}
-use lib.Dec.{eqb}
+use lib.Dec.{eqb, ltb}
 use Rattle.lists.specs.Tests.{pick}
 use Rattle.records.specs.Tags.{RE, code, tagOf, responseLength}
 use Rattle.run.specs.declared.Run.{Run}
@@ -26,9 +26,11 @@ unfoldable pub stretchOf : ℕ → ℕ → List ℕ → ℕ
 stretchOf zero size s = 0
 stretchOf (suc f) size s = pick (isRow s) (suc (stretchOf f size (drop size s))) 0
 
--- those that a run may be given in one call
+-- those that a run is given in one call: where they are more than half of b
 unfoldable pub rowsAhead : Run → List ℕ → ℕ
-rowsAhead r s = pick (eqb (stageOf r) 4) (stretchOf mostRows (responseLength (r .b)) s) 0
+rowsAhead r s =
+    let rows = stretchOf mostRows (responseLength (r .b)) s in
+    pick (eqb (stageOf r) 4) (pick (ltb (r .b / 2) rows) rows 0) 0
 
 -- the lines of records with these numbers
 unfoldable pub numberLines : ℕ → List ℕ → List ℕ

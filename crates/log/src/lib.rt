@@ -129,7 +129,8 @@ fn stretch(rest: &[u8], length: usize) -> usize
     ROWS
 }
 
-// How many rows what is left begins with that a run at stage 4 may be given in one call; none at another stage.
+// How many rows what is left begins with that a run at stage 4 is given in one call; none at another stage, and none where they are no more than half of
+// b: a call combines QUAL's values for every u, which costs no more than for two u a row from there on.
 fn rows_ahead(run: Run, rest: &[u8]) -> usize
     ensures { λ r. ⌜ r ≡ rowsAhead run (now (rest .entry)) ⌝ }
 {
@@ -140,7 +141,12 @@ fn rows_ahead(run: Run, rest: &[u8]) -> usize
         return 0;
     }
     let length = records::response_length(run.b);
-    stretch(rest, length)
+    let rows = stretch(rest, length);
+    let few = (run.b / 2) as usize;
+    if rows <= few {
+        return 0;
+    }
+    rows
 }
 
 // The bytes of so many rows, or all that are left.
@@ -152,7 +158,8 @@ fn rows_length(b: u8, rows: usize, left: usize) -> usize
     if left < whole { left } else { whole }
 }
 
-// The page of a log that is not too long, into a buffer with room for every page. Rows from one on that is to be tested are given in one call.
+// The page of a log that is not too long, into a buffer with room for every page. Rows from one on that is to be tested are given in one call, where they
+// are many.
 fn put_page(log: &[u8], out: &mut [u8]) -> usize
     requires { ⌜ (length (now log) ≤ longest) × (mostReport ≤ length (now out)) ⌝ }
     ensures { λ r. ⌜ Wrote (now (out .entry)) (now (out .exit)) 0 r (refusalLines 1 fresh (recordsOf (now (log .entry))) ++ closing (runOf (now (log .entry)))) ⌝ }

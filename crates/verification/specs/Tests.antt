@@ -1,6 +1,6 @@
 -- The test of a row against QUAL's committed values, which are combined beforehand for the numbers that are tested.
 use mathlib.Core.Path.{_≡_}
-use mathlib.Core.Bool.{Bool}
+use mathlib.Core.Bool.{Bool, true}
 use mathlib.Core.List.{List}
 use Prim.Native.Nat.{ℕ, _+_}
 use Rattle.field.specs.declared.Scalar.{Scalar}
@@ -32,7 +32,8 @@ holderOf setup j =
 abbrev pub qualValues : Setup → Dealings → Complaints → ℕ → List Element
 qualValues setup d c k = tableTo (setup .n) (unblamed (setup .n) c (d .dealers)) (quorum (setup .t) (setup .a)) (d .commitments) k
 
--- with them, and with the run's challenges, the first k numbers pass by the definition
-abbrev pub TestedRow : ℕ → Setup → List Scalar → List Element → List ℕ → Bool → Type 0
-TestedRow k setup numbers values s r =
-    (d : Dealings) (c : Complaints) (e : Challenges) → numbers ≡ e .numbers → values ≡ qualValues setup d c k → r ≡ rowPasses k setup d c e s
+-- with them, and with the run's challenges, the first k numbers pass by the definition, where those pass that are known to
+abbrev pub TestedRow : ℕ → ℕ → Setup → List Scalar → List Element → List ℕ → Bool → Type 0
+TestedRow known k setup numbers values s r =
+    (d : Dealings) (c : Complaints) (e : Challenges) → numbers ≡ e .numbers → values ≡ qualValues setup d c k → rowPasses known setup d c e s ≡ true
+    → r ≡ rowPasses k setup d c e s

@@ -60,8 +60,10 @@ pub fn qual_values(
     combination::table(list, setup.n, qual, quorum, count)
 }
 
-// Whether the first numbers of a row pass, as many as QUAL's committed values are combined for. The first that fails ends the row.
+// Whether the first numbers of a row pass, as many as QUAL's committed values are combined for; those that are known to pass are passed over. The first
+// that fails ends the row.
 pub fn test_row(
+    known: u8,
     count: u8,
     setup: Setup,
     holder: Holder,
@@ -69,15 +71,15 @@ pub fn test_row(
     values: [Element; PLACES],
     bytes: &[u8],
 ) -> bool
-    requires { ⌜ (inBounds (setup .n) (setup .t) (setup .a) ≡ true) × (count ≤ setup .n) × (holder ≡ holderOf setup (sender (now bytes))) ⌝ }
-    ensures { λ r. ⌜ TestedRow count setup numbers values (now (bytes .entry)) r ⌝ }
+    requires { ⌜ (inBounds (setup .n) (setup .t) (setup .a) ≡ true) × (known ≤ count) × (count ≤ setup .n) × (holder ≡ holderOf setup (sender (now bytes))) ⌝ }
+    ensures { λ r. ⌜ TestedRow known count setup numbers values (now (bytes .entry)) r ⌝ }
 {
     let quorum = parameters::quorum(setup.t, setup.a) as u8;
     let key = holder.key;
     let slots = holder.slots;
     let points = holder.points;
     let mut passed = true;
-    'row: for u in 0..count {
+    'row: for u in known..count {
         let mut chain = Chain::none();
         for v in 0..quorum {
             let value = values[u as usize * STRIDE + v as usize];
@@ -96,7 +98,7 @@ pub fn test_row(
     passed
 }
 
-// Whether each of the b response numbers of a row passes. The committed values are combined for every u only where the first number passes.
+// Whether each of the b response numbers of a row passes. The committed values are combined for one u more as long as the numbers pass.
 pub fn row_passes(
     b: u8,
     setup: Setup,
@@ -110,13 +112,23 @@ pub fn row_passes(
 {
     let numbers = challenges.numbers;
     let holder = holder_of(setup, bytes);
-    let few: u8 = if 0 < b { 1 } else { 0 };
-    let first = qual_values(setup, dealings, complaints, few);
-    if !test_row(few, setup, holder, numbers, first, bytes) {
-        return false;
+    let n = setup.n;
+    let quorum = parameters::quorum(setup.t, setup.a) as u8;
+    let unblamed = complaints.unblamed(n, dealings.dealers);
+    let mut powers = dealings.commitments;
+    let mut values = [Element::ONE; PLACES];
+    for u in 0..b {
+        if 0 < u {
+            let more = combination::raised(powers, n);
+            powers = more;
+        }
+        let next = combination::with_values(values, powers, n, unblamed, quorum, u);
+        values = next;
+        if !test_row(u, u + 1, setup, holder, numbers, values, bytes) {
+            return false;
+        }
     }
-    let all = qual_values(setup, dealings, complaints, b);
-    test_row(b, setup, holder, numbers, all, bytes)
+    true
 }
 
 // R(u,k) before the shift at the point 1-k, and C_u(j) at j, whatever the challenges.

@@ -9,6 +9,7 @@ use mathlib.Core.List.{List}
 use Prim.Native.Nat.{ℕ, _-_, _≤_, _<_}
 use lib.ListN.{length, take, drop, length-drop}
 use lib.Seq.{length-take-le}
+use Rattle.lists.specs.Tests.{allTo}
 use Rattle.lists.specs.TestLaws.{fails-stays}
 use Rattle.parameters.specs.Definitions.{inBounds}
 use Rattle.parameters.specs.ParameterLaws.{bounds-test}
@@ -117,11 +118,12 @@ as-cut h k =
 
 first-tested : (t : tie.After-test-row Inv-loop μ-loop) → let l = t .before .before .before .before .before .before .before .before .before in
     t .test-row .result ≡ readyPasses l (l .loop .ready)
+unfolding allTo
 first-tested t =
     let h = t .before .before in
     let l = h .before .before .before .before .before .before .before in
     let r = start (l .before .before) .args .run in
-    t .test-row .ensures (r .dealings) (r .complaints) (r .challenges) refl (l .loop .inv .3) ∙ as-cut h (l .loop .ready)
+    t .test-row .ensures (r .dealings) (r .complaints) (r .challenges) refl (l .loop .inv .3) refl ∙ as-cut h (l .loop .ready)
 
 -- the values are ready for every u, or the row fails by those that are
 extended : (e : tie.Joined3 Inv-loop μ-loop) → let l = e .before .before .before .before .before .before .before .before in
@@ -144,6 +146,7 @@ extended e =
 
 tested : (t : tie.After-test-row2 Inv-loop μ-loop) → let l = t .before .before .before .before .before .before .before .before .before in
     t .test-row2 .result ≡ passesAt (l .loop .next) (rowAt l)
+unfolding allTo
 tested t =
     let e = t .before in
     let h = e .before in
@@ -151,7 +154,7 @@ tested t =
     let r = start (l .before .before) .args .run in
     let more = extended e in
     let ready = e .if3 .ready in
-    let answer : t .test-row2 .result ≡ readyPasses l ready = t .test-row2 .ensures (r .dealings) (r .complaints) (r .challenges) refl (more .1) ∙ as-cut h ready in
+    let answer : t .test-row2 .result ≡ readyPasses l ready = t .test-row2 .ensures (r .dealings) (r .complaints) (r .challenges) refl (more .1) refl ∙ as-cut h ready in
     let kept = l .loop .inv .1 .kept in
     answer
     ∙ ⊎-elim (λ whole. ap (readyPasses l) whole) (λ fails. fails ∙ sym (fails-stays _ ready (r .b) (more .0) fails)) (more .2)
@@ -250,7 +253,7 @@ test-row-requires c κs =
     let h = c .before in
     let l = h .before .before .before .before .before .before .before in
     let asked = testable h (l .loop .inv .2) in
-    (asked .0, asked .1, h .holder-of .ensures)
+    (asked .0, omega arith, asked .1, h .holder-of .ensures)
 
 qual-values-requires-2 : tie.Need-qual-values-requires-2 Inv-loop μ-loop
 qual-values-requires-2 c κs = testable (c .before .before .before) (omega arith)
@@ -258,7 +261,7 @@ qual-values-requires-2 c κs = testable (c .before .before .before) (omega arith
 test-row-requires-2 : tie.Need-test-row-requires-2 Inv-loop μ-loop
 test-row-requires-2 c κs =
     let asked = testable (c .before) (extended c .0) in
-    (asked .0, asked .1, c .before .holder-of .ensures)
+    (asked .0, omega arith, asked .1, c .before .holder-of .ensures)
 
 with-response-requires : tie.Need-with-response-requires Inv-loop μ-loop
 with-response-requires c κs =

@@ -40,23 +40,23 @@ use Rattle.verification.proofs.test_row.Statement.{statement}
 use Rattle.verification.proofs.test_row.Tie as tie
 
 abbrev Inv-loop : tie.InvT-loop
-Inv-loop count setup numbers bytes values quorum key slots points passed u chain₀ v₀ chain v =
+Inv-loop known count setup numbers bytes values quorum key slots points passed u chain₀ v₀ chain v =
     (v ≤ quorum)
     × ((qual : ℕ) (list : List Element) → values ≡ tableTo (setup .n) qual quorum list count
     → chainValue chain ≡ productOf (first v points) (valuesAt (setup .n) qual quorum list (u + 1)))
 
 abbrev μ-loop : tie.MeasureT-loop
-μ-loop count setup numbers bytes values quorum key slots points passed u chain₀ v₀ chain v =
+μ-loop known count setup numbers bytes values quorum key slots points passed u chain₀ v₀ chain v =
     quorum - v
 
 abbrev Inv-row : tie.InvT-row
-Inv-row count setup numbers bytes values quorum key slots points passed₀ u₀ passed u =
+Inv-row known count setup numbers bytes values quorum key slots points passed₀ u₀ passed u =
     (u ≤ count) × (count ≤ mostParties) × (quorum ≤ mostParties) × (passed ≡ true)
     × ((qual : ℕ) (list : List Element) → values ≡ tableTo (setup .n) qual quorum list count
-    → allTo u (fits setup list numbers qual quorum key slots points bytes) ≡ true)
+    → allTo known (fits setup list numbers qual quorum key slots points bytes) ≡ true → allTo u (fits setup list numbers qual quorum key slots points bytes) ≡ true)
 
 abbrev μ-row : tie.MeasureT-row
-μ-row count setup numbers bytes values quorum key slots points passed₀ u₀ passed u = count - u
+μ-row known count setup numbers bytes values quorum key slots points passed₀ u₀ passed u = count - u
 
 -- ---- what is known before the rows
 
@@ -75,27 +75,27 @@ fits-of p qual list =
 -- the values that the contract speaks of are those of the loop
 handed : (p : tie.After-points Inv-loop μ-loop Inv-row μ-row) (qual : ℕ) (list : List Element) →
     let a = start p .args in
-    a .t5 ≡ tableTo (a .setup .n) qual (quorum (a .setup .t) (a .setup .a)) list (a .count) → a .t5 ≡ tableTo (a .setup .n) qual (need p .quorum .result) list (a .count)
+    a .t6 ≡ tableTo (a .setup .n) qual (quorum (a .setup .t) (a .setup .a)) list (a .count) → a .t6 ≡ tableTo (a .setup .n) qual (need p .quorum .result) list (a .count)
 handed p qual list h =
     let a = start p .args in
     h ∙ ap (λ (m : ℕ). tableTo (a .setup .n) qual m list (a .count)) (sym (need p .quorum .ensures))
 
 -- the test is that of the definition
-tested : (p : tie.After-points Inv-loop μ-loop Inv-row μ-row) (d : Dealings) (c : Complaints) (e : Challenges) →
+tested : (p : tie.After-points Inv-loop μ-loop Inv-row μ-row) (k : ℕ) (d : Dealings) (c : Complaints) (e : Challenges) →
     let a = start p .args in
     let s = a .bytes .now in
     a .numbers ≡ e .numbers
-    → allTo (a .count) (fits-of p (unblamed (a .setup .n) c (d .dealers)) (d .commitments))
-    ≡ allTo (a .count) (λ i. passes (transcript (a .setup) d c e) (i + 1) (sender s) (scalar (word s 4 i)))
+    → allTo k (fits-of p (unblamed (a .setup .n) c (d .dealers)) (d .commitments))
+    ≡ allTo k (λ i. passes (transcript (a .setup) d c e) (i + 1) (sender s) (scalar (word s 4 i)))
 unfolding holderOf
-tested p d c e numbers =
+tested p k d c e numbers =
     let a = start p .args in
     let setup = a .setup in
     let qual = unblamed (setup .n) c (d .dealers) in
-    ap (λ (l : List Scalar). allTo (a .count) (fits setup (d .commitments) l qual (need p .quorum .result) (a .holder .key) (a .holder .slots) (a .holder .points) (a .bytes .now))) numbers
-    ∙ ap (λ (m : ℕ). allTo (a .count) (fits setup (d .commitments) (e .numbers) qual m (a .holder .key) (a .holder .slots) (a .holder .points) (a .bytes .now))) (need p .quorum .ensures)
-    ∙ ap (λ (h : Holder). allTo (a .count) (fits setup (d .commitments) (e .numbers) qual (quorum (setup .t) (setup .a)) (h .key) (h .slots) (h .points) (a .bytes .now))) (start p .pre .2)
-    ∙ row-is setup d c e (bounds-of _ _ _ (start p .pre .0)) (a .bytes .now) (a .count)
+    ap (λ (l : List Scalar). allTo k (fits setup (d .commitments) l qual (need p .quorum .result) (a .holder .key) (a .holder .slots) (a .holder .points) (a .bytes .now))) numbers
+    ∙ ap (λ (m : ℕ). allTo k (fits setup (d .commitments) (e .numbers) qual m (a .holder .key) (a .holder .slots) (a .holder .points) (a .bytes .now))) (need p .quorum .ensures)
+    ∙ ap (λ (h : Holder). allTo k (fits setup (d .commitments) (e .numbers) qual (quorum (setup .t) (setup .a)) (h .key) (h .slots) (h .points) (a .bytes .now))) (start p .pre .3)
+    ∙ row-is setup d c e (bounds-of _ _ _ (start p .pre .0)) (a .bytes .now) k
 
 -- the weights are as many as the committed points
 all-points : (p : tie.After-points Inv-loop μ-loop Inv-row μ-row) → need p .quorum .result ≤ 64 → first (need p .quorum .result) (start p .args .holder .points) ≡ start p .args .holder .points
@@ -104,7 +104,7 @@ all-points p l =
     let a = start p .args in
     let size = need p .quorum .ensures in
     all-weights (need p .quorum .result) (committedPoint (a .setup .a)) (party (sender (a .bytes .now))) l refl
-    (ap (λ (h : Holder). h .points) (start p .pre .2) ∙ ap (λ (m : ℕ). weightsOf (listed m (committedPoint (a .setup .a))) (party (sender (a .bytes .now)))) (sym size))
+    (ap (λ (h : Holder). h .points) (start p .pre .3) ∙ ap (λ (m : ℕ). weightsOf (listed m (committedPoint (a .setup .a))) (party (sender (a .bytes .now)))) (sym size))
 
 -- ---- what is known where a number is compared
 
@@ -118,7 +118,7 @@ row c = turn c .before .before .before
 compared : (c : tie.After-same Inv-loop μ-loop Inv-row μ-row) (qual : ℕ) (list : List Element) →
     let r = row c .before in
     let a = start (r .before) .args in
-    a .t5 ≡ tableTo (a .setup .n) qual (need (r .before) .quorum .result) list (a .count) → c .same .result ≡ fits-of (r .before) qual list (r .row .u)
+    a .t6 ≡ tableTo (a .setup .n) qual (need (r .before) .quorum .result) list (a .count) → c .same .result ≡ fits-of (r .before) qual list (r .row .u)
 unfolding fits wanted
 compared c qual list h =
     let m = c .before .before .before in
@@ -152,7 +152,7 @@ unfolding allTo
 row-holds c =
     let s = start c in
     let bounds = bounds-of _ _ _ (s .pre .0) in
-    (omega arith, omega (arith, s .pre .1, bounds .n-max), omega (arith, need c .quorum .ensures, quorum-max bounds), refl, λ qual list h. refl)
+    (s .pre .1, omega (arith, s .pre .2, bounds .n-max), omega (arith, need c .quorum .ensures, quorum-max bounds), refl, λ qual list h known. known)
 
 none-requires : tie.Need-none-requires Inv-loop μ-loop Inv-row μ-row
 none-requires c κs = search needs
@@ -268,21 +268,22 @@ row-again c =
       r .row .inv .1,
       r .row .inv .2,
       r .row .inv .3,
-      λ qual list h.
+      λ qual list h known.
           let good = sym (compared k qual list h) ∙ not-false _ (c .if1 .left) in
-          all-next (r .row .u) (fits-of (r .before) qual list) ∙ rw (r .row .inv .4 qual list h, good),
+          all-next (r .row .u) (fits-of (r .before) qual list) ∙ rw (r .row .inv .4 qual list h known, good),
     )
 
 returns : tie.Need-returns Inv-loop μ-loop Inv-row μ-row
-returns c d cs e numbers h =
+returns c d cs e numbers h known =
     let r = c .before in
     let p = r .before in
     let qual = unblamed (start p .args .setup .n) cs (d .dealers) in
     let end : r .row .u ≡ start p .args .count = omega arith in
-    r .row .inv .3 ∙ sym (rw end at (r .row .inv .4 qual (d .commitments) (handed p qual (d .commitments) h))) ∙ tested p d cs e numbers
+    let passed = tested p (start p .args .known) d cs e numbers ∙ known in
+    r .row .inv .3 ∙ sym (rw end at (r .row .inv .4 qual (d .commitments) (handed p qual (d .commitments) h) passed)) ∙ tested p (start p .args .count) d cs e numbers
 
 returns-2 : tie.Need-returns-2 Inv-loop μ-loop Inv-row μ-row
-returns-2 c d cs e numbers h =
+returns-2 c d cs e numbers h known =
     let k = c .before in
     let i = row k in
     let r = i .before in
@@ -291,7 +292,7 @@ returns-2 c d cs e numbers h =
     let list = d .commitments in
     let bad = sym (compared k qual list (handed p qual list h)) ∙ not-true _ (c .if1 .taken) in
     let fails : allTo (r .row .u + 1) (fits-of p qual list) ≡ false = all-next (r .row .u) (fits-of p qual list) ∙ rw (bad, and-false) in
-    sym (fails-stays (fits-of p qual list) (r .row .u + 1) (start p .args .count) (omega (arith, i .row-test .taken)) fails) ∙ tested p d cs e numbers
+    sym (fails-stays (fits-of p qual list) (r .row .u + 1) (start p .args .count) (omega (arith, i .row-test .taken)) fails) ∙ tested p (start p .args .count) d cs e numbers
 
 pub test-row-spec : {M : Type 1} → statement M
 test-row-spec =
