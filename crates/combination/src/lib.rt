@@ -84,7 +84,7 @@ pub fn combined_values(powers: [Element; PLACES], qual: u64, n: u8, quorum: u8) 
     values
 }
 
-// The values with those of a set of dealers for one u more, from its powers: u stands for the place, counted from 0.
+// The values with those of a set of dealers for one u more, from the powers for it. They stand from u × STRIDE on, u counted from 0.
 pub fn with_values(
     values: [Element; PLACES],
     powers: [Element; PLACES],
