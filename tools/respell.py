@@ -119,6 +119,28 @@ def main():
     def turned(text):
         return WORD.sub(word, text)
 
+    crates = set(os.listdir('crates'))
+
+    def kept(text):
+        """the words that a file takes from the library: they stay in it"""
+        words = set()
+        for m in re.finditer(r'(?m)^(?:ghost )?use ([\w.]+?)\.\{([^}]*)\}', text):
+            path = m.group(1).split('.')
+            if path[0] != 'Rattle' or path[1] not in crates:
+                words |= {w.strip().split(' as ')[-1] for w in m.group(2).split(',')}
+        return words
+
+    def turned_file(text):
+        stay = kept(text)
+        both = sorted(w for w in stay if w in new)
+
+        def one(m):
+            w = m.group(0)
+            return w if w in stay else new.get(w, w)
+
+        lines = [paged(line) if line.lstrip().startswith('--') else WORD.sub(one, line) for line in text.split('\n')]
+        return '\n'.join(lines), both
+
     def paged(text):
         """the same in a text that port.py did not turn, where a name may still have its first spelling"""
 
@@ -156,8 +178,10 @@ def main():
         return ''.join(out)
 
     for path in sources():
-        text = read(path)
-        write(path, crate_paths('\n'.join(paged(line) if line.lstrip().startswith('--') else turned(line) for line in text.split('\n'))))
+        text, both = turned_file(read(path))
+        if both:
+            print(f'{path}: of the library here: {" ".join(both)}')
+        write(path, crate_paths(text))
     for path in sorted(glob.glob('crates/*/src/**/*.rt', recursive=True)):
         text = re.sub(r'`([^`\n]+)`', lambda m: '`' + paged(m.group(1)) + '`', rust(read(path)))
         write(path, crate_paths(text))

@@ -1,1 +1,2 @@
 // Definitions and laws alone, in specs/.
+#![tactic(auto)]

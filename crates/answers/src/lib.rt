@@ -1,4 +1,5 @@
 // What a run answers when it is asked: the sets HOLD, QUAL and BAD, and R(u,k) and φ(u,k), both shifted.
+#![tactic(auto)]
 ghost use Rattle.std.specs.Prelude.{◌≡◌};
 ghost use Rattle.answers.specs.Answers.{unblamed_of, sets_of, in_batch, nonce_of, phi_answer};
 
@@ -6,7 +7,7 @@ use field::{Element, Scalar};
 use run::Run;
 
 // HOLD, QUAL and BAD, once they are fixed.
-#[derive(Drop)]
+#[derive(Clone, Copy)]
 pub struct Sets {
     pub fixed: bool,
     pub hold: u64,
@@ -15,14 +16,14 @@ pub struct Sets {
 }
 
 // The shifted R(u,k), or none where the run has none.
-#[derive(Drop)]
+#[derive(Clone, Copy)]
 pub enum Nonce {
     Is(Element),
     None,
 }
 
 // The shifted φ(u,k), or none where the run has none.
-#[derive(Drop)]
+#[derive(Clone, Copy)]
 pub enum Signature {
     Is(Scalar),
     None,

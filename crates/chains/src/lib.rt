@@ -1,4 +1,5 @@
 // Products of powers, factor by factor, with one chain of squarings for all of them.
+#![tactic(auto)]
 ghost use Rattle.std.specs.Prelude.{◌≡◌};
 ghost use Rattle.field.specs.Definitions.{identity, product, raise};
 ghost use Rattle.chains.specs.Definitions.{chain_value};
@@ -9,7 +10,7 @@ use field::{Element, Scalar};
 pub const DIGITS: usize = 16;
 
 // A product of powers so far: at place d the product of each value to digit d, base 4, of its exponent.
-#[derive(Drop)]
+#[derive(Clone, Copy)]
 pub struct Chain {
     pub digits: [Element; DIGITS],
 }

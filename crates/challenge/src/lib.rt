@@ -1,4 +1,5 @@
 // The challenges with the shift: what a CH or CS gives.
+#![tactic(auto)]
 ghost use Rattle.std.specs.Prelude.{◌≡◌};
 ghost use Rattle.lists.specs.Stores.{stored};
 ghost use Rattle.field.specs.Definitions.{scalar};
@@ -9,7 +10,7 @@ use field::Scalar;
 use parameters::CELLS;
 
 // The challenges of the accepted CH or CS, u outer, and the shift δ: that of the CS, and 0 with a CH or before either.
-#[derive(Drop)]
+#[derive(Clone, Copy)]
 pub struct Challenges {
     pub shift: Scalar,
     pub numbers: [Scalar; CELLS],

@@ -1,5 +1,6 @@
 // Reads a log and bundles of response rows on standard input. Gives each bundle to the run that the log leaves, in one call, and prints the call's number
 // and the lent list in hex; last what the run has come to. docs/FORMATS.md says what the input is.
+#![tactic(auto)]
 ghost use Rattle.std.specs.Prelude.{◌≤◌, length};
 
 use answers::Signature;

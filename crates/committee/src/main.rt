@@ -1,5 +1,6 @@
 // Makes a complete log with the writers and gives it to a run: a committee of 6 with threshold 1 and packing 2, in which dealer 4 sends a wrong
 // share to holder 1 and is blamed. Prints each reply, the sets as masks and the stage, then every R and φ.
+#![tactic(auto)]
 use console::{end_line, print_number};
 use field::Scalar;
 use replies::give;

@@ -1,4 +1,5 @@
 // The accepted complaint rows: what a run keeps of them, what one more adds, and the sets that follow from them.
+#![tactic(auto)]
 ghost use Rattle.std.specs.Prelude.{◌≡◌, not, ◌||◌, ◌+◌, ◌≤◌};
 ghost use Rattle.lists.specs.Tests.{all_to};
 ghost use Rattle.sets.specs.Masks.{has};
@@ -9,7 +10,7 @@ use dealing::{Dealings, Setup};
 use parameters::{MOST_PARTIES, PARTIES};
 
 // The accepted complaint rows (verdicts, in document 01). Holder j's mask stands at j - 1.
-#[derive(Drop)]
+#[derive(Clone, Copy)]
 pub struct Complaints {
     pub count: u8,
     pub holders: u64,

@@ -1,4 +1,5 @@
 // The accepted setup and the accepted dealings: what a run keeps of them, and what one more dealing adds.
+#![tactic(auto)]
 ghost use Rattle.std.specs.Prelude.{◌≡◌, true, ◌+◌, ◌≤◌};
 ghost use Rattle.lists.specs.Stores.{stored, filled};
 ghost use Rattle.field.specs.Definitions.{element, identity};
@@ -13,7 +14,7 @@ use parameters::{MOST_PARTIES, PARTIES, PLACES, STRIDE};
 use rows::ROW;
 
 // The accepted setup: the parameters, and S, S_1 to S_t.
-#[derive(Drop)]
+#[derive(Clone, Copy)]
 pub struct Setup {
     pub n: u8,
     pub t: u8,
@@ -22,7 +23,7 @@ pub struct Setup {
 }
 
 // The accepted dealings. Dealer i's committed values stand from (i - 1) × STRIDE, and the holders whose share from i is not valid at i - 1.
-#[derive(Drop)]
+#[derive(Clone, Copy)]
 pub struct Dealings {
     pub count: u8,
     pub dealers: u64,

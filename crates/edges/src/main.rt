@@ -1,4 +1,5 @@
 // Prints the arithmetic at the edges of its ranges: a line for each number, then a line for each two.
+#![tactic(auto)]
 use console::{end_line, print_test};
 use field::{Element, Reading, Scalar};
 use libc::STDOUT_FILENO;

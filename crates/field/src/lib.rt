@@ -1,17 +1,18 @@
 // Scalars modulo q and group elements modulo P, two kinds of number that are never taken for one another.
+#![tactic(auto)]
 ghost use Rattle.std.specs.Prelude.{◌≡◌, ◌<◌};
 ghost use Rattle.field.specs.Definitions.{scalar, identity, generator, power_of, reduced, plus, minus, times, inverse, power, is_scalar, same_element, product, powered, raise, read_element, some_element};
 
 // A number from 0 to q - 1, counted modulo q.
-#[derive(Drop)]
+#[derive(Clone, Copy)]
 pub struct Scalar(pub u32);
 
 // A number V from 1 to P - 1 with V^q = 1 modulo P.
-#[derive(Drop)]
+#[derive(Clone, Copy)]
 pub struct Element(pub u32);
 
 // What a number is, read as one of the group.
-#[derive(Drop)]
+#[derive(Clone, Copy)]
 pub enum Reading {
     NoElement,
     Identity,

@@ -1,1 +1,2 @@
 // Tests over numbers, stores into lists and lists of members: definitions and laws in specs/, no code.
+#![tactic(auto)]

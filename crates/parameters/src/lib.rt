@@ -1,4 +1,5 @@
 // The parameters of a committee: their bounds, and what follows from them.
+#![tactic(auto)]
 ghost use Rattle.std.specs.Prelude.{◌≡◌};
 ghost use Rattle.parameters.specs.Definitions.{in_bounds, quorum, batch, is_party};
 

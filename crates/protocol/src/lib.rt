@@ -1,1 +1,2 @@
 // What is promised of lists of records: theorems in specs/, no code.
+#![tactic(auto)]

@@ -1,4 +1,5 @@
 // Records given to a run, and what the run answers, printed.
+#![tactic(auto)]
 use answers::{Nonce, Signature};
 use libc::STDOUT_FILENO;
 use run::Run;

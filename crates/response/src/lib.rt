@@ -1,4 +1,5 @@
 // The accepted response rows: when one is taken, what one more adds, and φ from what is kept.
+#![tactic(auto)]
 ghost use Rattle.std.specs.Prelude.{◌≡◌, true, ◌≤◌};
 ghost use Rattle.lists.specs.Stores.{stored};
 ghost use Rattle.field.specs.Definitions.{scalar};
@@ -16,7 +17,7 @@ use parameters::{CELLS, PLACES, STRIDE};
 use rows::Basis;
 
 // The accepted response rows. Holder j's numbers stand from (j - 1) × STRIDE.
-#[derive(Drop)]
+#[derive(Clone, Copy)]
 pub struct Responses {
     pub count: u8,
     pub responders: u64,

@@ -1,4 +1,5 @@
 // Lists of scalars with their count: the weights of points, and what they make of scalars and of elements.
+#![tactic(auto)]
 ghost use Rattle.std.specs.Prelude.{◌≡◌};
 ghost use Rattle.rows.specs.Definitions.{size, nth, weights_of, scale, basis_of, weights_by, sum_of, product_of};
 ghost use Rattle.rows.specs.BasisLaws.{partial_products, reversed};
@@ -12,14 +13,14 @@ pub const MOST_SCALARS: u8 = 64;
 pub const ROW: usize = MOST_SCALARS as usize;
 
 // A list of at most 64 scalars, points or weights, with its count. A count above 64 counts as 64.
-#[derive(Drop)]
+#[derive(Clone, Copy)]
 pub struct Row {
     pub at: [Scalar; ROW],
     pub count: u8,
 }
 
 // Points, and for each the inverse of the product of its differences from the others: what the weights at any x rest on.
-#[derive(Drop)]
+#[derive(Clone, Copy)]
 pub struct Basis {
     pub points: Row,
     pub scales: Row,

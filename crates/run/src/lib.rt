@@ -1,4 +1,5 @@
 // The run: what it keeps, and what a record does to it.
+#![tactic(auto)]
 ghost use Rattle.std.specs.Prelude.{◌≡◌, true, ◌+◌, ◌≤◌};
 ghost use Rattle.lists.specs.Tests.{require, or_next};
 ghost use Rattle.parameters.specs.Definitions.{in_bounds};
@@ -20,7 +21,7 @@ use stages::Handler;
 
 // The run. b is the signatures of a packed slot, and 0 while a run that was begun by SX waits for GO; m, the number of dealings, is their count.
 // At stage 5 the signatures, each a shifted φ, stand u outer, k inner.
-#[derive(Drop)]
+#[derive(Clone, Copy)]
 pub struct Run {
     pub stage: u8,
     pub b: u8,
@@ -33,7 +34,7 @@ pub struct Run {
 }
 
 // What a record gets: the next run and 0, or the run as it was and the refusal's number.
-#[derive(Drop)]
+#[derive(Clone, Copy)]
 pub struct Reply {
     pub run: Run,
     pub number: u8,

@@ -1,5 +1,6 @@
 // Reads a stream of requests to the writers on standard input and prints for each the number that the writer answers and the buffer in hex, or that
 // the request is broken. docs/FORMATS.md says what a request is.
+#![tactic(auto)]
 ghost use Rattle.std.specs.Prelude.{◌≤◌, ◌<◌, length};
 
 use libc::{STDERR_FILENO, STDIN_FILENO, STDOUT_FILENO};

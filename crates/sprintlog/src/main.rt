@@ -1,5 +1,6 @@
 // The program sprintlog: the log on standard input, its page on standard output. Where it cannot read the log, or make or write the page, it says so
 // on standard error.
+#![tactic(auto)]
 use libc::STDIN_FILENO;
 use reader::{LONGEST, REPORT};
 

@@ -1,5 +1,6 @@
 // The program sprintsets: the log on standard input, its short page on standard output, which has the sets and the bytes that were read for them.
 // Where it cannot read the log, or make or write the page, it says so on standard error.
+#![tactic(auto)]
 use libc::STDIN_FILENO;
 use reader::LONGEST;
 use summary::SHORT;

@@ -1,4 +1,5 @@
 // Streams that programs read on standard input, the run of a log in one, and answers with a buffer in hex.
+#![tactic(auto)]
 ghost use Rattle.std.specs.Prelude.{◌≤◌, length};
 
 use libc::STDOUT_FILENO;

@@ -1,4 +1,5 @@
 // The sets alone: a log read up to the record that fixes them, how many bytes that takes, and the short page.
+#![tactic(auto)]
 ghost use Rattle.std.specs.Prelude.{◌≡◌, ◌≤◌, length};
 ghost use Rattle.std.proofs.lemmas.List.Edits.{sets};
 ghost use Rattle.text.specs.Texts.{Wrote};
@@ -17,14 +18,14 @@ use run::Run;
 pub const SHORT: usize = 2150;
 
 // HOLD, QUAL and BAD of a log, fixed or not, and the bytes that were read for them.
-#[derive(Drop)]
+#[derive(Clone, Copy)]
 pub struct Summary {
     pub sets: Sets,
     pub bytes: usize,
 }
 
 // The run after the records that were read, and the bytes that they count.
-#[derive(Drop)]
+#[derive(Clone, Copy)]
 struct Passage {
     run: Run,
     bytes: usize,

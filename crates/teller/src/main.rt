@@ -1,4 +1,5 @@
 // Reads numbers of parties with masks on standard input, and prints for each how large the set is. docs/FORMATS.md says what stands where.
+#![tactic(auto)]
 ghost use Rattle.std.specs.Prelude.{◌+◌, ◌≤◌, length};
 
 use libc::{STDERR_FILENO, STDIN_FILENO, STDOUT_FILENO};

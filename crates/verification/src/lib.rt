@@ -1,4 +1,5 @@
 // Response numbers against what is kept: the test of a row, and C_u(x).
+#![tactic(auto)]
 ghost use Rattle.std.specs.Prelude.{◌≡◌, true, ◌≤◌};
 ghost use Rattle.parameters.specs.Definitions.{in_bounds};
 ghost use Rattle.protocol.specs.Transcript.{combined_at};
@@ -16,7 +17,7 @@ use parameters::{CELLS, PLACES, STRIDE};
 use rows::Row;
 
 // What the numbers of a row are tested with that depends on its holder j alone: S_j, and the weights at j of the slots and of the committed points.
-#[derive(Drop)]
+#[derive(Clone, Copy)]
 pub struct Holder {
     pub key: Element,
     pub slots: Row,

@@ -1,5 +1,6 @@
 // Prints cases A to L of document 01, each on a line that begins with its letter: what the run replies to the records of the case, one number each, or what the
 // arithmetic gives; then document 02's: the worked log with a shift, committees of 33 and more, a key that is the identity, a run that waits for more dealers; last the replies to records that are none.
+#![tactic(auto)]
 use console::{end_line, print_number, print_test};
 use field::{Element, Scalar};
 use libc::STDOUT_FILENO;
