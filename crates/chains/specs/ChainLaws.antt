@@ -1,9 +1,9 @@
 -- The laws of products of powers: the empty one, one factor more, and one place more of what it comes to. Assumes nothing.
 use Rattle.std.specs.Prelude.{◌≡◌, ℕ, zero, suc, ◌+◌, ◌*◌, ◌/◌, ◌%◌, ◌^◌, ◌≤◌, ◌<◌, length}
 use Rattle.std.proofs.Math.Path.{refl, sym, ap, ap₂}
-use Rattle.std.proofs.Common.{◌∙◌, arith, zero_add, add_zero, pow_suc, mul_comm, div-one, add-one}
+use Rattle.std.proofs.Common.{◌∙◌, arith, zero-add, add-zero, pow-suc, mul_comm, div-one, add-one}
 use mathlib.Core.List.{List, [], ◌∷◌}
-use Rattle.std.proofs.Math.Nat.{pow_zero, div-div-eq-div-mul}
+use Rattle.std.proofs.Math.Nat.{pow-zero, div-div-eq-div-mul}
 use Rattle.std.proofs.Math.ListN.{get_or, set}
 use Rattle.lists.specs.Stores.{stored, filled}
 use Rattle.lists.specs.StoreLaws.{get_or_filled, get_d_default, stored_first, stored_at, stored_other}
@@ -27,10 +27,10 @@ digit w d = w / 4 ^ d % 4
 
 -- what is left of w above its lowest digits
 pub left_none : (w : ℕ) → w ≡ w / 4 ^ 0
-left_none w = sym (ap (λ (x : ℕ). w / x) (pow_zero 4) ∙ div-one w)
+left_none w = sym (ap (λ (x : ℕ). w / x) (pow-zero 4) ∙ div-one w)
 
 pub left_next : (w d : ℕ) → w / 4 ^ d / 4 ≡ w / 4 ^ (d + 1)
-left_next w d = div-div-eq-div-mul w (4 ^ d) 4 ∙ ap (λ (x : ℕ). w / x) (sym (pow_suc 4 d) ∙ ap (λ (k : ℕ). 4 ^ k) (sym (add-one d)))
+left_next w d = div-div-eq-div-mul w (4 ^ d) 4 ∙ ap (λ (x : ℕ). w / x) (sym (pow-suc 4 d) ∙ ap (λ (k : ℕ). 4 ^ k) (sym (add-one d)))
 
 digit_lowest : (w : ℕ) → digit w 0 ≡ w % 4
 unfolding digit
@@ -41,7 +41,7 @@ digit_shift : (w d : ℕ) → digit w (d + 1) ≡ digit (w / 4) d
 unfolding digit
 digit_shift w d =
     ap (λ (x : ℕ). x % 4)
-    (ap (λ (x : ℕ). w / x) (ap (λ (k : ℕ). 4 ^ k) (add-one d) ∙ pow_suc 4 d ∙ mul_comm (4 ^ d) 4) ∙ sym (div-div-eq-div-mul w 4 (4 ^ d)))
+    (ap (λ (x : ℕ). w / x) (ap (λ (k : ℕ). 4 ^ k) (add-one d) ∙ pow-suc 4 d ∙ mul_comm (4 ^ d) 4) ∙ sym (div-div-eq-div-mul w 4 (4 ^ d)))
 
 -- ---- what a product of powers comes to
 
@@ -84,19 +84,19 @@ Multiplied m l v n d w = (i : ℕ) → i < n → get_or m (d + i) identity ≡ p
 pub value_times : (m l : List Element) (v : Element) (n d w : ℕ) → w < 4 ^ n → Multiplied m l v n d w → value_from m d n ≡ product (value_from l d n) (powered v w)
 unfolding value_from
 value_times m l v zero d w h e =
-    let none : w ≡ 0 = omega (arith, pow_zero 4) in
+    let none : w ≡ 0 = omega (arith, pow-zero 4) in
     sym (ap (λ (k : ℕ). product identity (powered v k)) none ∙ ap (product identity) (powered_zero v) ∙ product_one identity identity_below)
 value_times m l v (suc n) d w h e =
-    let rest = value_times m l v n (d + 1) (w / 4) (omega (arith, pow_suc 4 n)) others in
+    let rest = value_times m l v n (d + 1) (w / 4) (omega (arith, pow-suc 4 n)) others in
     ap₂ product first (ap (λ (x : Element). powered x 4) rest ∙ product_powered (value_from l (d + 1) n) (powered v (w / 4)) 4)
     ∙ exchange (get_or l d identity) (powered v (w % 4)) (powered (value_from l (d + 1) n) 4) (powered (powered v (w / 4)) 4)
     ∙ ap (product (product (get_or l d identity) (powered (value_from l (d + 1) n) 4))) (lowest v w)
   where
     first : get_or m d identity ≡ product (get_or l d identity) (powered v (w % 4))
     first =
-        ap (λ (k : ℕ). get_or m k identity) (sym (add_zero d))
+        ap (λ (k : ℕ). get_or m k identity) (sym (add-zero d))
         ∙ e 0 (omega arith)
-        ∙ ap₂ (λ (k : ℕ) (x : ℕ). product (get_or l k identity) (powered v x)) (add_zero d) (digit_lowest w)
+        ∙ ap₂ (λ (k : ℕ) (x : ℕ). product (get_or l k identity) (powered v x)) (add-zero d) (digit_lowest w)
 
     others : Multiplied m l v n (d + 1) (w / 4)
     others i c =
@@ -168,4 +168,4 @@ multiplied_value v l w n h full = value_times (multiplied (powers_of v) l w n) l
     at : Multiplied (multiplied (powers_of v) l w n) l v n 0 w
     at i c =
         stored_at l 0 n (place (powers_of v) l w) identity (omega arith) i c
-        ∙ ap₂ (λ (k : ℕ) (x : Element). product (get_or l k identity) x) (sym (zero_add i)) (powers_of_at v (w / 4 ^ i % 4) (omega arith))
+        ∙ ap₂ (λ (k : ℕ) (x : Element). product (get_or l k identity) x) (sym (zero-add i)) (powers_of_at v (w / 4 ^ i % 4) (omega arith))

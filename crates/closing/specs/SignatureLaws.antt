@@ -1,6 +1,6 @@
 -- The signature lines of one u, which a page has one after the other; and R(u,k), shifted, as the code finds it. Assumes nothing.
 use Rattle.std.specs.Prelude.{◌≡◌, List, [], ◌++◌, ℕ, zero, suc, ◌+◌, ◌*◌, ◌-◌, ◌/◌, ◌%◌, ◌≤◌, ◌<◌, length, get_or}
-use Rattle.std.proofs.Common.{sym, ap, ap₂, ◌∙◌, append-nil, append_assoc, add_zero, add-suc, mul_comm, add-one, arith, length-append}
+use Rattle.std.proofs.Common.{sym, ap, ap₂, ◌∙◌, append-nil, append_assoc, add-zero, add-suc, mul_comm, add-one, arith, length-append}
 use Rattle.std.proofs.Math.Arith.{digits_lt, digits_div, digits_mod}
 use Rattle.sets.specs.Masks.{has}
 use Rattle.field.specs.declared.Scalar.{Scalar}
@@ -44,7 +44,7 @@ signatures_next r u k l =
 -- the first u rows, and k lines of the next
 rows_and : (r : Run) (u k : ℕ) → k ≤ r.setup.a → signature_lines r (u * r.setup.a) ++ row_lines r (u + 1) k ≡ signature_lines r (u * r.setup.a + k)
 unfolding row_lines
-rows_and r u zero l = append-nil _ ∙ ap (signature_lines r) (sym (add_zero (u * r.setup.a)))
+rows_and r u zero l = append-nil _ ∙ ap (signature_lines r) (sym (add-zero (u * r.setup.a)))
 rows_and r u (suc k) l =
     let a = r.setup.a in
     sym (append_assoc (signature_lines r (u * a)) (row_lines r (u + 1) k) (signature_line r (u + 1) (k + 1)))

@@ -1,9 +1,9 @@
 -- The committed values combined for u, from their powers raised step by step. Assumes nothing.
 use Rattle.std.specs.Prelude.{◌≡◌, refl, Bool, ◌⊎◌, ℕ, zero, suc, ◌+◌, ◌*◌, ◌-◌, ◌/◌, ◌^◌, ◌≤◌, ◌<◌, min, length, get_or}
-use Rattle.std.proofs.Common.{sym, ◌∙◌, inl, inr, pow_suc, add-one, arith}
+use Rattle.std.proofs.Common.{sym, ◌∙◌, inl, inr, pow-suc, add-one, arith}
 use Rattle.std.proofs.Math.Path.{ap}
 use mathlib.Core.List.{List}
-use Rattle.std.proofs.Math.Nat.{pow_zero}
+use Rattle.std.proofs.Math.Nat.{pow-zero}
 use Rattle.std.proofs.Math.Decide.{dec_lt}
 use Rattle.std.proofs.Math.ListN.{get_or-eq_default}
 use Rattle.lists.specs.Stores.{stored, filled}
@@ -61,13 +61,13 @@ raised_at n list i v p l h =
 power_at : (n : ℕ) (list : List Element) (i v : ℕ) → 0 < i → i ≤ n → v < stride → (u : ℕ)
     → powered (commitment_in (powers_at n list u) i v) 1 ≡ powered (commitment_in list i v) (i ^ u)
 unfolding powers_at
-power_at n list i v p l h zero = ap (powered (commitment_in list i v)) (sym (pow_zero i))
+power_at n list i v p l h zero = ap (powered (commitment_in list i v)) (sym (pow-zero i))
 power_at n list i v p l h (suc u) =
     ap (λ (w : Element). powered w 1) (raised_at n (powers_at n list u) i v p l h)
     ∙ powered_swap (commitment_in (powers_at n list u) i v) i 1
     ∙ ap (λ (w : Element). powered w i) (power_at n list i v p l h u)
     ∙ powered_powered (commitment_in list i v) (i ^ u) i
-    ∙ ap (powered (commitment_in list i v)) (sym (pow_suc i u))
+    ∙ ap (powered (commitment_in list i v)) (sym (pow-suc i u))
 
 -- combined for the u whose powers these are
 module _ (n : ℕ) (qual : ℕ → Bool) (list : List Element) (u : ℕ) where

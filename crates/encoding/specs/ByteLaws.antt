@@ -1,7 +1,7 @@
 -- Laws of numbers as bytes: how long they are, and that what is read back is what was written.
 -- Assumes nothing.
 use Rattle.std.specs.Prelude.{◌≡◌, refl, true, false, List, [], ◌++◌, ℕ, zero, suc, ◌+◌, ◌*◌, ◌-◌, ◌/◌, ◌%◌, ◌^◌, ◌≤◌, ◌<◌, length}
-use Rattle.std.proofs.Common.{sym, ap, ◌∙◌, append-nil, append_assoc, arith, add_zero, zero_add, add_assoc, div-one, ne_eqb, shr-shr, length-append, get_or-append-add}
+use Rattle.std.proofs.Common.{sym, ap, ◌∙◌, append-nil, append_assoc, arith, add-zero, zero-add, add_assoc, div-one, ne_eqb, shr-shr, length-append, get_or-append-add}
 use Rattle.std.proofs.Math.Nat.{div-eq_of_lt}
 use Rattle.std.proofs.Math.Decide.{ℕ_discrete}
 use Rattle.field.specs.declared.Scalar.{Scalar}
@@ -48,13 +48,13 @@ wide_first w x rest l (suc k) m =
     let at : 8 * (w - 1 - k) + 8 ≡ 8 * (w - k) = omega arith in
     let high : x / 2 ^ (8 * (w - k)) ≡ y / 256 = sym (shr-shr x (8 * (w - 1 - k)) 8 ∙ ap (λ (i : ℕ). x / 2 ^ i) at) in
     let place : w - suc k ≡ w - 1 - k = omega arith in
-    rw (wide_first w x rest l k (omega arith), high, zero_add k, byte_of w x rest k m, place) (omega arith)
+    rw (wide_first w x rest l k (omega arith), high, zero-add k, byte_of w x rest k m, place) (omega arith)
 
 -- what is read of w bytes is what was written
 pub wide_at_is : (w : ℕ) (head : List ℕ) (x : ℕ) (rest : List ℕ) → x < 2 ^ (8 * w) → wide_at w (head ++ (bytes_of w x ++ rest)) (length head) ≡ x
 wide_at_is w head x rest l =
     let all : 8 * (w - w) ≡ 0 = omega arith in
-    ap (wide_at w (head ++ (bytes_of w x ++ rest))) (sym (add_zero (length head)))
+    ap (wide_at w (head ++ (bytes_of w x ++ rest))) (sym (add-zero (length head)))
     ∙ wide_after w head (bytes_of w x ++ rest) 0
     ∙ wide_first w x rest l w (omega arith)
     ∙ ap (λ (i : ℕ). x / 2 ^ i) all

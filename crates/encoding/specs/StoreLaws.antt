@@ -1,7 +1,7 @@
 -- Laws of runs of stores: a whole record, and numbers one by one.
 -- Assumes nothing.
 use Rattle.std.specs.Prelude.{◌≡◌, refl, List, ◌++◌, ℕ, suc, ◌+◌, ◌*◌, ◌-◌, ◌/◌, ◌%◌, ◌^◌, ◌<◌, length, set}
-use Rattle.std.proofs.Common.{sym, ap, ◌∙◌, append-nil, zero_add, add_zero, add-one, arith, drop_of_length-le}
+use Rattle.std.proofs.Common.{sym, ap, ◌∙◌, append-nil, zero-add, add-zero, add-one, arith, drop_of_length-le}
 use Rattle.std.proofs.lemmas.List.Edits.{sets, sets-eq}
 use Rattle.std.proofs.Math.Seq.{length-sets}
 use Rattle.lists.specs.StoreLaws.{sets_append}
@@ -11,7 +11,7 @@ use Rattle.encoding.specs.ByteLaws.{length_fours}
 -- a beginning and the rest fill a buffer of their length
 pub sets_whole : (out head rest : List ℕ) → length (head ++ rest) ≡ length out → sets (sets out 0 head) (length head) rest ≡ head ++ rest
 sets_whole out head rest e =
-    ap (λ (k : ℕ). sets (sets out 0 head) k rest) (sym (zero_add (length head)))
+    ap (λ (k : ℕ). sets (sets out 0 head) k rest) (sym (zero-add (length head)))
     ∙ sym (sets_append head rest out 0)
     ∙ sets-eq (head ++ rest) out 0 (omega arith)
     ∙ ap (λ (r : List ℕ). (head ++ rest) ++ r) (drop_of_length-le out {i = 0 + length (head ++ rest)} (omega arith))
@@ -28,7 +28,7 @@ sets_parts out head x y e = sym (sets_append x y (sets out 0 head) (length head)
 pub bytes_first : (w x : ℕ) (out : List ℕ) (at : ℕ) → sets out (at + 0) (bytes_of (w - 0) x) ≡ sets out at (bytes_of w x)
 bytes_first w x out at =
     let all : w - 0 ≡ w = omega arith in
-    rw (all, add_zero at)
+    rw (all, add-zero at)
 
 -- byte i of w put, and the bytes behind it still to be put
 pub bytes_next : (w x : ℕ) (out : List ℕ) (at i : ℕ) → i < w

@@ -3,7 +3,7 @@ use Rattle.std.specs.Prelude.{◌≡◌, refl, ◌≢◌, ◌↔◌, Bool, true,
 use Rattle.std.proofs.Common.{sym, ap₂, ◌∙◌, arith, mod-lt, mod-eq_of_lt, mul_comm, pos_of_ne-zero, lt_trans, lit<, lt-ltb, ltb-true, eq-eqb, eqb-true}
 use Rattle.std.proofs.Math.Path.{ap}
 use Rattle.std.proofs.Math.Bool.{and-eq-true_iff}
-use Rattle.std.proofs.Math.Nat.{pow_zero}
+use Rattle.std.proofs.Math.Nat.{pow-zero}
 use Rattle.std.proofs.Math.Bridge.{le_prop}
 use Rattle.std.proofs.Math.Pow as N
 use Rattle.field.specs.declared.Scalar.{Scalar}
@@ -172,7 +172,7 @@ product_one v l = ap element (same P (omega arith) ∙ mod-eq_of_lt l)
 
 pub powered_zero : (v : Element) → powered v 0 ≡ identity
 unfolding powered
-powered_zero v = ap element (W.power_is P v.0 0 ∙ ap (λ (x : ℕ). x % P) (pow_zero v.0) ∙ mod-eq_of_lt 1<P)
+powered_zero v = ap element (W.power_is P v.0 0 ∙ ap (λ (x : ℕ). x % P) (pow-zero v.0) ∙ mod-eq_of_lt 1<P)
 
 pub powered_one : (v : Element) → Below v → powered v 1 ≡ v
 unfolding powered Below

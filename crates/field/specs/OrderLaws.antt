@@ -1,6 +1,6 @@
 -- The order of a number v modulo m: exponents count modulo it, and where it is prime the powers below it differ. Assumes nothing.
 use Rattle.std.specs.Prelude.{◌≡◌, ◌≢◌, ℕ, ◌+◌, ◌*◌, ◌-◌, ◌^◌, ◌%◌, ◌/◌, ◌≤◌, ◌<◌}
-use Rattle.std.proofs.Common.{sym, ap, ◌∙◌, one_mul, pow_add}
+use Rattle.std.proofs.Common.{sym, ap, ◌∙◌, one-mul, pow-add}
 use native.Mathlib.Omega.{arith, by_contra}
 use Rattle.std.proofs.Math.Nat.{mod-mod, div-add-mod}
 use Rattle.field.specs.CongruenceLaws.{mod_mul_mod, mul_mod_mod}
@@ -21,13 +21,13 @@ module _ (m n v : ℕ) (ord : v ^ n % m ≡ 1) where
 
   -- a factor that is 1 modulo m
   one_factor : (w x : ℕ) → w % m ≡ 1 → w * x % m ≡ x % m
-  one_factor w x e = sym (mod_mul_mod w x m) ∙ ap (λ (z : ℕ). z * x % m) e ∙ ap (λ (z : ℕ). z % m) (one_mul x)
+  one_factor w x e = sym (mod_mul_mod w x m) ∙ ap (λ (z : ℕ). z * x % m) e ∙ ap (λ (z : ℕ). z % m) (one-mul x)
 
   -- the exponent counts only modulo n
   pub period : (a : ℕ) → v ^ (a % n) % m ≡ v ^ a % m
   period a =
       sym (one_factor (v ^ (n * (a / n))) (v ^ (a % n)) (ap (λ (x : ℕ). x % m) (pow_mul v n (a / n)) ∙ one_power (v ^ n) (a / n) ord))
-      ∙ ap (λ (x : ℕ). x % m) (sym (pow_add v (n * (a / n)) (a % n))) ∙ ap (λ (x : ℕ). v ^ x % m) (div-add-mod a n)
+      ∙ ap (λ (x : ℕ). x % m) (sym (pow-add v (n * (a / n)) (a % n))) ∙ ap (λ (x : ℕ). v ^ x % m) (div-add-mod a n)
 
   -- where d has an inverse modulo n, v ^ d is 1 only if v is
   order : (d : ℕ) → Inverse n d → v ^ d % m ≡ 1 → v % m ≡ 1
@@ -38,10 +38,10 @@ module _ (m n v : ℕ) (ord : v ^ n % m ≡ 1) where
   -- two equal powers: the power of their difference is 1
   cancel : (x d : ℕ) → x ≤ n → v ^ x % m ≡ v ^ (x + d) % m → v ^ d % m ≡ 1
   cancel x d l e =
-      sym (one_factor (v ^ n) (v ^ d) ord) ∙ ap (λ (z : ℕ). z % m) (sym (pow_add v n d))
-      ∙ ap (λ (z : ℕ). v ^ z % m) shift ∙ ap (λ (z : ℕ). z % m) (pow_add v (n - x) (x + d))
+      sym (one_factor (v ^ n) (v ^ d) ord) ∙ ap (λ (z : ℕ). z % m) (sym (pow-add v n d))
+      ∙ ap (λ (z : ℕ). v ^ z % m) shift ∙ ap (λ (z : ℕ). z % m) (pow-add v (n - x) (x + d))
       ∙ sym (mul_mod_mod (v ^ (n - x)) (v ^ (x + d)) m) ∙ ap (λ (z : ℕ). v ^ (n - x) * z % m) (sym e)
-      ∙ mul_mod_mod (v ^ (n - x)) (v ^ x) m ∙ ap (λ (z : ℕ). z % m) (sym (pow_add v (n - x) x))
+      ∙ mul_mod_mod (v ^ (n - x)) (v ^ x) m ∙ ap (λ (z : ℕ). z % m) (sym (pow-add v (n - x) x))
       ∙ ap (λ (z : ℕ). v ^ z % m) back ∙ ord
     where
       shift : n + d ≡ n - x + (x + d)

@@ -1,7 +1,7 @@
 -- The laws of stores and of filled lists. Assumes nothing.
 use Rattle.std.specs.Prelude.{◌≡◌, ◌≢◌, length, replicate}
 use Rattle.std.proofs.Math.Path.{refl, ap, ap₂}
-use Rattle.std.proofs.Common.{sym, ◌∙◌, arith, zero_add, add_zero, add-suc, suc-add, add-one, get_or-set_same}
+use Rattle.std.proofs.Common.{sym, ◌∙◌, arith, zero-add, add-zero, add-suc, suc-add, add-one, get_or-set_same}
 use mathlib.Core.List.{List, [], ◌∷◌, ◌++◌}
 use Prim.Native.Nat.{ℕ, zero, suc, ◌+◌, ◌-◌, ◌≤◌, ◌<◌, min}
 use Rattle.std.proofs.Math.Decide.{ℕ_discrete, dec_le, dec_lt}
@@ -20,7 +20,7 @@ module _ {A : Type 0} where
 
   -- two lists stored one after the other are stored as one
   pub sets_append : (s t l : List A) (at : ℕ) → sets l at (s ++ t) ≡ sets (sets l at s) (at + length s) t
-  sets_append [] t l at = ap (λ (k : ℕ). sets l k t) (sym (add_zero at))
+  sets_append [] t l at = ap (λ (k : ℕ). sets l k t) (sym (add-zero at))
   sets_append (x ∷ s) t l at =
       sets_append s t (set l at x) (suc at) ∙ ap (λ (k : ℕ). sets (sets (set l at x) (suc at) s) k t) (suc-add at (length s) ∙ sym (add-suc at (length s)))
 
@@ -31,14 +31,14 @@ module _ {A : Type 0} where
 
   -- the same from the front
   pub stored_first : (l : List A) (k : ℕ) (f : ℕ → A) → stored l 0 (k + 1) f ≡ set (stored l 0 k f) k (f k)
-  stored_first l k f = stored_next l 0 k f ∙ ap (λ (p : ℕ). set (stored l 0 k f) p (f k)) (zero_add k)
+  stored_first l k f = stored_next l 0 k f ∙ ap (λ (p : ℕ). set (stored l 0 k f) p (f k)) (zero-add k)
 
   -- stores past the end change nothing
   pub stored_capped : (l : List A) (m : ℕ) (f : ℕ → A) → stored l 0 (min m (length l)) f ≡ stored l 0 m f
   stored_capped l m f = go (dec_le m (length l))
     where
       past : (k : ℕ) → stored l 0 (length l + k) f ≡ stored l 0 (length l) f
-      past zero = ap (λ (i : ℕ). stored l 0 i f) (add_zero (length l))
+      past zero = ap (λ (i : ℕ). stored l 0 i f) (add-zero (length l))
       past (suc k) =
           ap (λ (i : ℕ). stored l 0 i f) (add-suc (length l) k ∙ sym (add-one (length l + k)))
           ∙ stored_first l (length l + k) f
@@ -63,7 +63,7 @@ module _ {A : Type 0} where
       go (no ne) ih = get_or-set_other (stored l base k f) (base + k) (base + i) (f k) d (omega arith) ∙ ih (omega arith)
 
   pub stored_from : (l : List A) (k : ℕ) (f : ℕ → A) (d : A) → k ≤ length l → (i : ℕ) → i < k → get_or (stored l 0 k f) i d ≡ f i
-  stored_from l k f d h i c = ap (λ (x : ℕ). get_or (stored l 0 k f) x d) (sym (zero_add i)) ∙ stored_at l 0 k f d (omega arith) i c
+  stored_from l k f d h i c = ap (λ (x : ℕ). get_or (stored l 0 k f) x d) (sym (zero-add i)) ∙ stored_at l 0 k f d (omega arith) i c
 
   -- every other place is as it was
   pub stored_other : (l : List A) (base k : ℕ) (f : ℕ → A) (d : A) (p : ℕ) → ((i : ℕ) → i < k → p ≢ base + i) → get_or (stored l base k f) p d ≡ get_or l p d

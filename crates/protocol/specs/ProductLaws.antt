@@ -2,7 +2,7 @@
 use Rattle.std.specs.Prelude.{◌≡◌, refl, Bool, true, false}
 use Rattle.std.proofs.Common.{◌∙◌, arith}
 use Prim.Native.Nat.{ℕ, zero, suc, ◌+◌, ◌≤◌, ◌<◌}
-use Rattle.std.proofs.Math.Nat.{pow_zero}
+use Rattle.std.proofs.Math.Nat.{pow-zero}
 use Rattle.algebra.specs.Fold.{fold}
 use Rattle.algebra.specs.FoldLaws.{fold_zero, fold_next, fold_cong}
 use Rattle.lists.specs.Tests.{pick}
@@ -55,7 +55,7 @@ module _ (set : ℕ → Bool) (f : ℕ → Element) where
 
 pub exponent_first : (i : ℕ) → exponent i 1 ≡ 1
 unfolding exponent
-exponent_first i = pow_zero i
+exponent_first i = pow-zero i
 
 -- an element to the scalar i^(u-1) is that to the whole number
 pub raise_coefficient : (v : Element) → IsElement v → (i u : ℕ) → raise v (coefficient i u) ≡ powered v (exponent i u)

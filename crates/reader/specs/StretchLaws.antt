@@ -1,7 +1,7 @@
 -- Rows that are given in one call are the log's next records, and their lines those of their numbers. Assumes nothing.
 use Rattle.std.specs.Prelude.{◌≡◌, refl, Bool, true, false, ◌≢◌, get_or, eqb, ltb}
 use Rattle.std.proofs.Math.Path.{sym, ap, ap₂, subst⁻¹}
-use Rattle.std.proofs.Common.{◌∙◌, zero_mul, add_zero, add-one, length-take, take_all, take-take, take-suc, drop-drop, length-take-le}
+use Rattle.std.proofs.Common.{◌∙◌, zero-mul, add-zero, add-one, length-take, take_all, take-take, take-suc, drop-drop, length-take-le}
 use mathlib.Core.List.{List, [], ◌∷◌, ◌++◌, append_assoc, append-nil}
 use Prim.Native.Nat.{ℕ, zero, suc, ◌+◌, ◌*◌, ◌-◌, ◌/◌, ◌≤◌, ◌<◌, min}
 use Rattle.std.proofs.Math.Nat.{suc-mul, le-mul_of_pos_right}
@@ -46,7 +46,7 @@ after_append r (s ∷ l) m = after_append (step_of r s).run l m
 lines_append : (position : ℕ) (r : Run) (l m : List (List ℕ))
     → refusal_lines position r (l ++ m) ≡ number_lines position (numbers_from r l) ++ refusal_lines (position + length l) (after_from r l) m
 unfolding refusal_lines number_lines numbers_from after_from
-lines_append position r [] m = ap (λ (p : ℕ). refusal_lines p r m) (sym (add_zero position))
+lines_append position r [] m = ap (λ (p : ℕ). refusal_lines p r m) (sym (add-zero position))
 lines_append position r (s ∷ l) m =
     let one = step_of r s in
     let place : position + 1 + length l ≡ position + suc (length l) = omega arith in
@@ -58,7 +58,7 @@ lines_append position r (s ∷ l) m =
 -- one number more
 numbers_next : (position : ℕ) (l m : List ℕ) → number_lines position (l ++ m) ≡ number_lines position l ++ number_lines (position + length l) m
 unfolding number_lines
-numbers_next position [] m = ap (λ (p : ℕ). number_lines p m) (sym (add_zero position))
+numbers_next position [] m = ap (λ (p : ℕ). number_lines p m) (sym (add-zero position))
 numbers_next position (k ∷ l) m =
     let place : position + 1 + length l ≡ position + suc (length l) = omega arith in
     ap (λ (t : List ℕ). refusal_line position k ++ t) (numbers_next (position + 1) l m ∙ ap (λ (p : ℕ). number_lines (position + 1) l ++ number_lines p m) place)
@@ -193,11 +193,11 @@ module _ (b : ℕ) where
   -- its rows are as many as it says, and no more than its bytes
   stretch_rows : (f : ℕ) (s : List ℕ) → length (cut size (take (stretch_of f size s * size) s)) ≡ stretch_of f size s
   unfolding stretch_of
-  stretch_rows zero s = ap (λ (n : ℕ). length (cut size (take n s))) (zero_mul size) ∙ ap length (cut_none size)
+  stretch_rows zero s = ap (λ (n : ℕ). length (cut size (take n s))) (zero-mul size) ∙ ap length (cut_none size)
   stretch_rows (suc f) s =
       pick_case (λ (k : ℕ). length (cut size (take (k * size) s)) ≡ k) (is_row s) (suc (stretch_of f size (drop size s))) 0
       (λ e. ap length (cut_row s (stretch_of f size (drop size s)) (row_some s e)) ∙ ap suc (stretch_rows f (drop size s)))
-      (λ e. ap (λ (n : ℕ). length (cut size (take n s))) (zero_mul size) ∙ ap length (cut_none size))
+      (λ e. ap (λ (n : ℕ). length (cut size (take n s))) (zero-mul size) ∙ ap length (cut_none size))
 
   stretch_bytes : (f : ℕ) (s : List ℕ) → stretch_of f size s ≤ length s
   unfolding stretch_of response_length
@@ -218,7 +218,7 @@ module _ (b : ℕ) where
   unfolding after_from
   none_ahead r s =
       sym
-      (ap (λ (n : ℕ). cut size (take n s) ++ records_from (after_from r (cut size (take n s))) (drop n s)) (zero_mul size)
+      (ap (λ (n : ℕ). cut size (take n s) ++ records_from (after_from r (cut size (take n s))) (drop n s)) (zero-mul size)
       ∙ ap (λ (l : List (List ℕ)). l ++ records_from (after_from r l) s) (cut_none size))
 
   stretch_ahead : (f : ℕ) (r : Run) (s : List ℕ) → Lasting r b →

@@ -3,7 +3,7 @@ use Rattle.std.specs.Prelude.{◌≡◌, List}
 use Rattle.std.proofs.Common.{ap, ◌∙◌, add-one}
 use Prim.Native.Nat.{ℕ, zero, suc, ◌+◌, ◌*◌, ◌-◌, ◌^◌, ◌<◌}
 use native.Mathlib.Omega.{arith}
-use Rattle.std.proofs.Math.Pow.{pow_add}
+use Rattle.std.proofs.Math.Pow.{pow-add}
 use Rattle.sets.specs.Masks.{bit, has}
 use Rattle.sets.specs.BitLaws.{bit_low, bit_over}
 use Rattle.sets.specs.MaskLaws.{has_bit}
@@ -23,7 +23,7 @@ module _ (s : List ℕ) (bytes : (i : ℕ) → byte_at s i < 256) where
   wide_lt zero at = omega arith
   wide_lt (suc w) at =
       let more : 8 * suc w ≡ 8 * w + 8 = omega arith in
-      rw (more, pow_add 2 (8 * w) 8) (omega (arith, wide_lt w at, bytes (at + w)))
+      rw (more, pow-add 2 (8 * w) 8) (omega (arith, wide_lt w at, bytes (at + w)))
 
   -- bit 8k + i is bit i of the byte that is k before the last
   pub wide_bit : (w at k i : ℕ) → k < w → i < 8 → bit (wide_at w s at) (8 * k + i) ≡ bit (byte_at s (at + (w - 1 - k))) i

@@ -1,6 +1,6 @@
 -- The laws of rows: what a listed row has, and what its weights make of values. Assumes nothing.
 use Rattle.std.specs.Prelude.{◌≡◌, refl, List, ℕ, ◌+◌, ◌≤◌, ◌<◌, min, get_or, set, replicate}
-use Rattle.std.proofs.Common.{sym, ap, ap₂, ◌∙◌, arith, zero_add}
+use Rattle.std.proofs.Common.{sym, ap, ap₂, ◌∙◌, arith, zero-add}
 use Rattle.algebra.specs.Fold.{fold}
 use Rattle.algebra.specs.FoldLaws.{fold_cong}
 use Rattle.lists.specs.Stores.{stored, filled}
@@ -79,7 +79,7 @@ front_none f = refl
 
 -- one store more
 pub front_next : (k : ℕ) (f : ℕ → Scalar) → front (k + 1) f ≡ set (front k f) k (f k)
-front_next k f = stored_next (filled most_scalars (scalar 0)) 0 k f ∙ ap (λ (p : ℕ). set (front k f) p (f k)) (zero_add k)
+front_next k f = stored_next (filled most_scalars (scalar 0)) 0 k f ∙ ap (λ (p : ℕ). set (front k f) p (f k)) (zero-add k)
 
 -- the array with its count is the row
 pub front_row : (m : ℕ) (f : ℕ → Scalar) {at : List Scalar} {count k : ℕ}

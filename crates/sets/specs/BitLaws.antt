@@ -1,7 +1,7 @@
 -- Laws of the bits of a mask.
 -- Assumes nothing.
 use Rattle.std.specs.Prelude.{◌≡◌, refl, false, not, ◌&&◌, ◌||◌, ℕ, zero, suc, ◌+◌, ◌*◌, ◌-◌, ◌/◌, ◌%◌, ◌^◌, ◌≤◌, ◌<◌, min, max, ◌≢◌, eqb}
-use Rattle.std.proofs.Common.{sym, ap, ap₂, ◌∙◌, arith, zero_add, suc-add, pow_suc, one_mul, mul_comm, div-one, shl_exact}
+use Rattle.std.proofs.Common.{sym, ap, ap₂, ◌∙◌, arith, zero-add, suc-add, pow-suc, one-mul, mul_comm, div-one, shl_exact}
 use Rattle.std.proofs.Math.Nat.{div-div-eq-div-mul}
 use Rattle.std.specs.Int.Bits.{bit_and, bit_or, block_half, block_odd, and_step, or_step}
 use Rattle.std.proofs.lemmas.Nat.{and_le_l}
@@ -49,10 +49,10 @@ unfolding bit
 bit_pow zero zero = refl
 bit_pow zero (suc i) = bit_zero i ∙ sym (eqb-suc-zero i)
 bit_pow (suc k) zero =
-    let e : 2 ^ suc k % 2 ≡ 0 = omega (arith, pow_suc 2 k) in
+    let e : 2 ^ suc k % 2 ≡ 0 = omega (arith, pow-suc 2 k) in
     ap (λ (x : ℕ). eqb x 1) e ∙ sym (eqb-zero-suc k)
 bit_pow (suc k) (suc i) =
-    let e : 2 ^ suc k / 2 ≡ 2 ^ k = omega (arith, pow_suc 2 k) in
+    let e : 2 ^ suc k / 2 ≡ 2 ^ k = omega (arith, pow-suc 2 k) in
     ap (λ (x : ℕ). bit x i) e ∙ bit_pow k i ∙ sym (eqb-suc-suc i k)
 
 -- a bit as code reads it: shifted down, the lowest
@@ -61,11 +61,11 @@ unfolding bit
 bit_is m zero = ap (λ (x : ℕ). eqb (x % 2) 1) (sym (div-one m))
 bit_is m (suc i) =
     bit_is (m / 2) i
-    ∙ ap (λ (x : ℕ). eqb (x % 2) 1) (div-div-eq-div-mul m 2 (2 ^ i) ∙ ap (λ (x : ℕ). m / x) (mul_comm 2 (2 ^ i) ∙ sym (pow_suc 2 i)))
+    ∙ ap (λ (x : ℕ). eqb (x % 2) 1) (div-div-eq-div-mul m 2 (2 ^ i) ∙ ap (λ (x : ℕ). m / x) (mul_comm 2 (2 ^ i) ∙ sym (pow-suc 2 i)))
 
 -- one bit as code makes it: shifted up within the word
 pub one_shifted : (k : ℕ) → k < mask_bits → 1 * 2 ^ k % 2 ^ mask_bits ≡ 2 ^ k
-one_shifted k l = shl_exact {a = 1} 1 k mask_bits (omega arith) (omega arith) ∙ one_mul (2 ^ k)
+one_shifted k l = shl_exact {a = 1} 1 k mask_bits (omega arith) (omega arith) ∙ one-mul (2 ^ k)
 
 -- ---- a mask of k bits below another
 
@@ -79,11 +79,11 @@ pub bit_over : (k high low i : ℕ) → low < 2 ^ k → bit (high * 2 ^ k + low)
 unfolding bit
 bit_over zero high low i l =
     let whole : high * 2 ^ 0 + low ≡ high = omega arith in
-    ap₂ bit whole (zero_add i)
+    ap₂ bit whole (zero-add i)
 bit_over (suc k) high low i l =
     ap (bit (high * 2 ^ suc k + low)) (suc-add k i)
     ∙ ap (λ (x : ℕ). bit x (k + i)) (block_half high k low)
-    ∙ bit_over k high (low / 2) i (omega (arith, pow_suc 2 k))
+    ∙ bit_over k high (low / 2) i (omega (arith, pow-suc 2 k))
 
 -- ---- bits and bounds
 
@@ -93,10 +93,10 @@ unfolding bit
 bit_high zero zero m l h = let z : m ≡ 0 = omega arith in ap (λ (x : ℕ). eqb (x % 2) 1) z
 bit_high zero (suc i) m l h = let z : m / 2 ≡ 0 = omega arith in ap (λ (x : ℕ). bit x i) z ∙ bit_zero i
 bit_high (suc k) zero m l h = absurd (omega arith)
-bit_high (suc k) (suc i) m l h = bit_high k i (m / 2) (omega (arith, pow_suc 2 k)) (omega arith)
+bit_high (suc k) (suc i) m l h = bit_high k i (m / 2) (omega (arith, pow-suc 2 k)) (omega arith)
 
 -- a mask of k + 1 bits whose highest is not set has k
 pub bit_none : (k m : ℕ) → m < 2 ^ suc k → bit m k ≡ false → m < 2 ^ k
 unfolding bit
 bit_none zero m l e = let odd : m % 2 ≢ 1 = eqb-false (m % 2) 1 e in omega arith
-bit_none (suc k) m l e = let half : m / 2 < 2 ^ k = bit_none k (m / 2) (omega (arith, pow_suc 2 (suc k))) e in omega (arith, pow_suc 2 k)
+bit_none (suc k) m l e = let half : m / 2 < 2 ^ k = bit_none k (m / 2) (omega (arith, pow-suc 2 (suc k))) e in omega (arith, pow-suc 2 k)

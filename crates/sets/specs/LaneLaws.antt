@@ -1,7 +1,7 @@
 -- Laws of lanes: a fold keeps the sum of a word's lanes and makes each two of them one, whatever their width; lanes of one bit sum to the number of
 -- members, and one lane is the word. Assumes nothing.
 use Rattle.std.specs.Prelude.{◌≡◌, refl, Bool, ℕ, zero, suc, ◌+◌, ◌-◌, ◌*◌, ◌/◌, ◌%◌, ◌^◌, ◌≤◌, ◌<◌, length, eqb}
-use Rattle.std.proofs.Common.{sym, ap, ap₂, ◌∙◌, arith, add_zero, add-suc, suc-add, add_comm, add_mul, mod-lt, mod-eq_of_lt, pow_pos, pow_mono, shr-shr}
+use Rattle.std.proofs.Common.{sym, ap, ap₂, ◌∙◌, arith, add-zero, add-suc, suc-add, add_comm, add-mul, mod-lt, mod-eq_of_lt, pow_pos, pow_mono, shr-shr}
 use Rattle.std.proofs.Math.Pow.{add-lt-pow, split, high, low, mod-mod-pow}
 use Rattle.std.specs.Int.Bits.{bit_and}
 use Rattle.std.proofs.lemmas.Nat.{and_shr, and_mod, and_mask}
@@ -38,7 +38,7 @@ fold_lane : (m w h : ℕ) → folded m w (h * 2 ^ (w + w) + (2 ^ w - 1)) ≡ fol
 unfolding folded
 fold_lane m w h =
     let swap : m / 2 ^ w / 2 ^ (w + w) ≡ m / 2 ^ (w + w) / 2 ^ w = shr-shr m w (w + w) ∙ ap (λ (k : ℕ). m / 2 ^ k) (add_comm w (w + w)) ∙ sym (shr-shr m (w + w) w) in
-    rw (and_lane m w h, and_lane (m / 2 ^ w) w h, swap, add_mul (bit_and (m / 2 ^ (w + w)) h) (bit_and (m / 2 ^ (w + w) / 2 ^ w) h) (2 ^ (w + w))) (omega arith)
+    rw (and_lane m w h, and_lane (m / 2 ^ w) w h, swap, add-mul (bit_and (m / 2 ^ (w + w)) h) (bit_and (m / 2 ^ (w + w) / 2 ^ w) h) (2 ^ (w + w))) (omega arith)
 
 -- a word of k lanes of w + w bits is one of k + k lanes of w bits: folded, its lanes have the same sum
 pub fold_sum : (w k m : ℕ) → lane_sum (w + w) k (folded m w (lower_halves w k)) ≡ lane_sum w (k + k) m
@@ -58,7 +58,7 @@ fold_sum w (suc k) m =
 -- one lane that holds the word is the word
 pub lane_whole : (w m : ℕ) → m < 2 ^ w → lane_sum w 1 m ≡ m
 unfolding lane_sum
-lane_whole w m l = rw (mod-eq_of_lt l) (add_zero m)
+lane_whole w m l = rw (mod-eq_of_lt l) (add-zero m)
 
 -- the members among the numbers from s + 1, each called by the number before it
 members_back : (f : ℕ → Bool) (s n : ℕ) → length (members_from f (suc s) n) ≡ length (members_from (λ i. f (suc i)) s n)

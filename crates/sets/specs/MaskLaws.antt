@@ -1,7 +1,7 @@
 -- Laws of sets of parties as masks.
 -- Assumes nothing.
 use Rattle.std.specs.Prelude.{◌≡◌, refl, Bool, true, false, not, ◌&&◌, ◌||◌, ℕ, zero, suc, ◌+◌, ◌-◌, ◌/◌, ◌%◌, ◌^◌, ◌≤◌, ◌<◌, eqb, leb}
-use Rattle.std.proofs.Common.{sym, ap, ap₂, ◌∙◌, arith, pow_suc, one_mul, add_zero, add-one, eq-eqb, ne_eqb, le-leb}
+use Rattle.std.proofs.Common.{sym, ap, ap₂, ◌∙◌, arith, pow-suc, one-mul, add-zero, add-one, eq-eqb, ne_eqb, le-leb}
 use Rattle.std.proofs.Math.Bool.{and-true, and-false, or-false, and-or_distrib_left}
 use Rattle.std.proofs.Math.Decide.{ℕ_discrete, dec_le}
 use Rattle.std.specs.Int.Bits.{bit_or, or_shifted_r}
@@ -87,13 +87,13 @@ unfolding mask_of
 mask_of_lt zero f = omega arith
 mask_of_lt (suc n) f =
     let l : mask_of n f < 2 ^ n = mask_of_lt n f in
-    pick_case (λ x. mask_of n f + x < 2 ^ suc n) (f (suc n)) (2 ^ n) 0 (λ e. omega (arith, pow_suc 2 n)) (λ e. omega (arith, pow_suc 2 n))
+    pick_case (λ x. mask_of n f + x < 2 ^ suc n) (f (suc n)) (2 ^ n) 0 (λ e. omega (arith, pow-suc 2 n)) (λ e. omega (arith, pow-suc 2 n))
 
 -- a bit above the others is added
 add_or : (n m : ℕ) → m < 2 ^ n → (b : Bool) → m + pick b (2 ^ n) 0 ≡ pick b (bit_or m (2 ^ n)) m
 add_or n m l b =
-    let e : m + 2 ^ n ≡ bit_or m (2 ^ n) = omega (arith, rw one_mul at (or_shifted_r 1 n m l)) in
-    pick_map (λ x. m + x) b (2 ^ n) 0 ∙ ap₂ (pick b) e (add_zero m)
+    let e : m + 2 ^ n ≡ bit_or m (2 ^ n) = omega (arith, rw one-mul at (or_shifted_r 1 n m l)) in
+    pick_map (λ x. m + x) b (2 ^ n) 0 ∙ ap₂ (pick b) e (add-zero m)
 
 bit_pick : (n m : ℕ) (b : Bool) (i : ℕ) → bit (pick b (bit_or m (2 ^ n)) m) i ≡ (bit m i || (b && eqb i n))
 bit_pick n m true i = bit_of_or m (2 ^ n) i ∙ ap (λ (x : Bool). bit m i || x) (bit_pow n i)

@@ -1,7 +1,7 @@
 -- Laws of the members of a set and of their number.
 -- Assumes nothing.
 use Rattle.std.specs.Prelude.{◌≡◌, refl, Bool, true, false, not, ◌&&◌, ◌||◌, List, [], ◌∷◌, ◌++◌, ℕ, zero, suc, ◌+◌, ◌^◌, ◌≤◌, ◌<◌, length, eqb}
-use Rattle.std.proofs.Common.{sym, ap, ap₂, ◌∙◌, append-nil, arith, add_zero, add-suc, suc-add, add_comm, add-one, length-append, eq-eqb, ne_eqb}
+use Rattle.std.proofs.Common.{sym, ap, ap₂, ◌∙◌, append-nil, arith, add-zero, add-suc, suc-add, add_comm, add-one, length-append, eq-eqb, ne_eqb}
 use Rattle.std.proofs.Math.Bool.{or-true, or-false}
 use Rattle.std.proofs.Math.Decide.{ℕ_discrete}
 use Rattle.lists.specs.Tests.{pick}
@@ -93,7 +93,7 @@ passing f i = pick (f i) (i ∷ []) []
 
 members_last : (f : ℕ → Bool) (s n : ℕ) → members_from f s (suc n) ≡ members_from f s n ++ passing f (s + n)
 unfolding members_from passing
-members_last f s zero = rw add_zero
+members_last f s zero = rw add-zero
 members_last f s (suc n) =
     let rest = members_from f (suc s) n in
     ap (λ (l : List ℕ). pick (f s) (s ∷ l) l) (members_last f (suc s) n)

@@ -1,6 +1,6 @@
 -- Laws of the page's texts: how decimals, fields and sets grow, and how long they are at most. Assumes nothing.
 use Rattle.std.specs.Prelude.{◌≡◌, refl, List, [], ◌∷◌, ◌++◌, ℕ, zero, suc, ◌+◌, ◌*◌, ◌/◌, ◌%◌, ◌^◌, ◌≤◌, ◌<◌, length, take, get_or, ltb}
-use Rattle.std.proofs.Common.{sym, ap, append-nil, append_assoc, pow_suc, div-lt_iff_lt-mul, add-one, arith, length-append, take-suc, lt-ltb}
+use Rattle.std.proofs.Common.{sym, ap, append-nil, append_assoc, pow-suc, div-lt_iff_lt-mul, add-one, arith, length-append, take-suc, lt-ltb}
 use Rattle.lists.specs.Tests.{pick}
 use Rattle.lists.specs.TestLaws.{pick_case}
 use Rattle.sets.specs.Masks.{has, members}
@@ -15,7 +15,7 @@ pub digits_more : (f n : ℕ) → n < 10 ^ suc f → decimal_to (suc (suc f)) n 
 unfolding decimal_to
 digits_more zero n h = rw (lt-ltb n 10 (omega arith))
 digits_more (suc f) n h =
-    ap (λ (l : List ℕ). pick (ltb n 10) [] l ++ ((nought + n % 10) ∷ [])) (digits_more f (n / 10) ((div-lt_iff_lt-mul {k = 10} {x = n} {y = 10 ^ suc f} (omega arith)).1 (rw (pow_suc 10 (suc f)) at h)))
+    ap (λ (l : List ℕ). pick (ltb n 10) [] l ++ ((nought + n % 10) ∷ [])) (digits_more f (n / 10) ((div-lt_iff_lt-mul {k = 10} {x = n} {y = 10 ^ suc f} (omega arith)).1 (rw (pow-suc 10 (suc f)) at h)))
 
 -- the last digit after those before it
 pub decimal_last : (n : ℕ) → n < 2 ^ 32 → decimal n ≡ pick (ltb n 10) [] (decimal (n / 10)) ++ ((nought + n % 10) ∷ [])
@@ -38,7 +38,7 @@ digits_few (suc f) zero n h = rw (lt-ltb n 10 (omega arith)) (omega arith)
 digits_few (suc f) (suc g) n h =
     let start : length (pick (ltb n 10) [] (decimal_to f (n / 10))) ≤ suc g =
     pick_case (λ (l : List ℕ). length l ≤ suc g) (ltb n 10) [] (decimal_to f (n / 10)) (λ e. omega arith)
-    (λ e. digits_few f g (n / 10) ((div-lt_iff_lt-mul {k = 10} {x = n} {y = 10 ^ suc g} (omega arith)).1 (rw (pow_suc 10 (suc g)) at h))) in
+    (λ e. digits_few f g (n / 10) ((div-lt_iff_lt-mul {k = 10} {x = n} {y = 10 ^ suc g} (omega arith)).1 (rw (pow-suc 10 (suc g)) at h))) in
     simp length-append (omega arith)
 
 pub decimal_max : (n : ℕ) → length (decimal n) ≤ 10

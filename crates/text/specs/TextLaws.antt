@@ -1,6 +1,6 @@
 -- The laws of texts stored in a buffer. Assumes nothing.
 use Rattle.std.specs.Prelude.{◌≡◌, refl, List, [], ◌∷◌, ◌++◌, ℕ, ◌+◌, length, set}
-use Rattle.std.proofs.Common.{sym, ap, ap₂, ◌∙◌, zero_add, arith, length-append}
+use Rattle.std.proofs.Common.{sym, ap, ap₂, ◌∙◌, zero-add, arith, length-append}
 use Rattle.std.proofs.lemmas.List.Edits.{sets}
 use Rattle.std.proofs.Math.Seq.{length-sets}
 use Rattle.lists.specs.StoreLaws.{sets_append}
@@ -25,7 +25,7 @@ wrote_append {l} {m} {k} {i} {j} {n} {s} {t} p q =
 -- ---- the rest of a page
 
 pub ahead_start : (l page : List ℕ) → Ahead l l 0 page page
-ahead_start l page = record { place = zero_add (length page); bytes = refl }
+ahead_start l page = record { place = zero-add (length page); bytes = refl }
 
 pub ahead_length : {l m : List ℕ} {i : ℕ} {page rest : List ℕ} → Ahead l m i page rest → length m ≡ length l
 ahead_length {l} {m} {i} {page} {rest} a = sym (length-sets m i rest) ∙ ap length a.bytes ∙ length-sets l 0 page

@@ -1,7 +1,7 @@
 -- `put_signatures` meets its contract. The loop has stored the rows that it passed, and raised the powers to those of the next. Assumes nothing.
 use mathlib.Core.Path.{◌≡◌, ap, ◌∙◌}
 use Prim.Native.Nat.{◌+◌, ◌*◌, ◌-◌, ◌≤◌, ◌<◌}
-use native.Mathlib.Nat.{zero_mul, mul-le-mul, mul_comm, le_refl}
+use native.Mathlib.Nat.{zero-mul, mul-le-mul, mul_comm, le_refl}
 use native.Mathlib.Omega.{arith}
 use borrow.Author.Rules.{rules}
 use lib.ListN.{length}
@@ -25,7 +25,7 @@ decreases-loop out₀ at run count powers₀ next₀ u₀ out powers next u = co
 
 loop-holds : tie.Need-loop-init invariant-loop decreases-loop
 unfolding signature_lines
-loop-holds c = (omega arith, powers_none _ _, rw zero_mul (wrote_none _ _))
+loop-holds c = (omega arith, powers_none _ _, rw zero-mul (wrote_none _ _))
 
 formed : (s : tie.Start invariant-loop decreases-loop) → Formed s.args.run
 formed s = formed_of s.args.run s.requires.0

@@ -1,7 +1,7 @@
 -- `power_of` meets its contract. The loop keeps product × square ^ left modulo m, until none or one is left. Assumes nothing.
 use borrow.Author.Rules.{rules}
 use native.Mathlib.Omega.{arith}
-use native.Mathlib.Nat.{pow_zero, mod-lt, one_mul}
+use native.Mathlib.Nat.{pow-zero, mod-lt, one-mul}
 use mathlib.Core.Logic.{⊎_elim}
 use mathlib.Core.Path.{◌≡◌, ◌∙◌, ap, sym}
 use Prim.Native.Nat.{ℕ, ◌*◌, ◌%◌, ◌^◌, ◌<◌}
@@ -18,7 +18,7 @@ abbrev decreases-loop : tie.decreases-loop
 decreases-loop modulus base exponent m product₀ square₀ left₀ product square left = left
 
 loop-holds : tie.Need-loop-init invariant-loop decreases-loop
-loop-holds c = (search rules, search rules, ap (λ (x : ℕ). x % c.args.modulus) (one_mul _))
+loop-holds c = (search rules, search rules, ap (λ (x : ℕ). x % c.args.modulus) (one-mul _))
 
 mul-product : tie.Need-overflow-mul-product invariant-loop decreases-loop
 mul-product c = record { fits = product_fits (omega arith) (omega arith) }
@@ -58,7 +58,7 @@ last_is c =
     let l = c.before.before.loop in
     ⊎_elim
     (λ w. (rw w.1 l.invariant.1, w.1 ∙ sym (ap (λ (k : ℕ). l.square ^ k) w.0.taken ∙ pow_one l.square)))
-    (λ w. let none : l.left ≡ 0 = omega arith in (rw w.1 (omega arith), w.1 ∙ sym (ap (λ (k : ℕ). l.square ^ k) none ∙ pow_zero l.square)))
+    (λ w. let none : l.left ≡ 0 = omega arith in (rw w.1 (omega arith), w.1 ∙ sym (ap (λ (k : ℕ). l.square ^ k) none ∙ pow-zero l.square)))
     c.if2.branch
 
 mul-result : tie.Need-overflow-mul-result invariant-loop decreases-loop

@@ -1,6 +1,6 @@
 -- `report` meets its contract. Assumes nothing.
 use mathlib.Core.Path.{refl, ◌∙◌}
-use native.Mathlib.Nat.{zero_add}
+use native.Mathlib.Nat.{zero-add}
 use borrow.Author.Rules.{rules}
 use borrow.Author.Tests.{lt-ltb, le-ltb}
 use Rattle.text.specs.Lines.{fields, line}
@@ -40,7 +40,7 @@ unfolding printed report_of
 returns-3 c =
     let w = c.before.before in
     let short = w.before.before in
-    rw (le-ltb _ most_report short.before.if1.false, le-ltb longest _ short.if2.false) (w.put-page.ensures.place ∙ zero_add _, w.put-page.ensures.bytes)
+    rw (le-ltb _ most_report short.before.if1.false, le-ltb longest _ short.if2.false) (w.put-page.ensures.place ∙ zero-add _, w.put-page.ensures.bytes)
 
 pub report_spec : {M : Type 1} → statement M
 report_spec =

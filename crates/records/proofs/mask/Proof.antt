@@ -4,7 +4,7 @@ use native.Mathlib.Omega.{arith}
 use native.Mathlib.Nat.{le_trans}
 use mathlib.Core.Path.{◌≡◌, refl, sym, ap, ◌∙◌}
 use Prim.Native.Nat.{ℕ, ◌+◌, ◌*◌, ◌-◌, ◌^◌, ◌≤◌, ◌<◌}
-use lib.Pow.{pow_add, pow_mono}
+use lib.Pow.{pow-add, pow_mono}
 use Rattle.records.specs.Bytes.{wide_at}
 use Rattle.records.specs.Tags.{mask_at}
 use Rattle.records.specs.RecordLaws.{width_max}
@@ -60,7 +60,7 @@ loop-again c =
     let at = c.before.before in
     let l = at.loop in
     let s = at.before.before.before.args.s.now in
-    let more : 2 ^ (8 * (l.i + 1)) ≡ 2 ^ (8 * l.i) * 256 = ap (λ (k : ℕ). 2 ^ k) (omega arith) ∙ pow_add 2 (8 * l.i) 8 in
+    let more : 2 ^ (8 * (l.i + 1)) ≡ 2 ^ (8 * l.i) * 256 = ap (λ (k : ℕ). 2 ^ k) (omega arith) ∙ pow-add 2 (8 * l.i) 8 in
     (omega arith, l.invariant.1, omega (arith, more), rw (l.invariant.3, c.byte.ensures) (sym (wide_next l.i s 4)))
 
 returns : tie.Need-returns invariant-loop decreases-loop

@@ -1,7 +1,7 @@
 -- `number` meets its contract. Assumes nothing.
 use borrow.Author.Rules.{rules}
 use native.Mathlib.Omega.{arith}
-use native.Mathlib.Nat.{add_zero}
+use native.Mathlib.Nat.{add-zero}
 use Rattle.records.specs.Bytes.{wide_at, number_at}
 use Rattle.records.proofs.number.Statement.{statement}
 use Rattle.records.proofs.number.Tie as tie
@@ -61,7 +61,7 @@ returns : tie.Need-returns
 unfolding number_at wide_at
 returns c =
     let first = c.before.before.before in
-    rw (add_zero first.before.before.args.at) (omega (arith, first.byte.ensures, c.before.before.byte2.ensures, c.before.byte3.ensures, c.byte4.ensures))
+    rw (add-zero first.before.before.args.at) (omega (arith, first.byte.ensures, c.before.before.byte2.ensures, c.before.byte3.ensures, c.byte4.ensures))
 
 pub number_spec : {M : Type 1} → statement M
 number_spec =

@@ -1,7 +1,7 @@
 -- `Scalar::inverse` meets its contract. The loop keeps factor times the inverse of what is left, modulo q. Assumes nothing.
 use borrow.Author.Rules.{rules}
 use native.Mathlib.Omega.{arith}
-use native.Mathlib.Nat.{mod-lt, mod-eq_of_lt, one_mul, div-le_self, lt_trans}
+use native.Mathlib.Nat.{mod-lt, mod-eq_of_lt, one-mul, div-le_self, lt_trans}
 use mathlib.Core.Path.{◌≡◌, ◌∙◌, ap, sym}
 use Prim.Native.Nat.{ℕ, ◌*◌, ◌%◌, ◌-◌, ◌/◌, ◌<◌}
 use Rattle.field.specs.declared.Scalar.{Scalar}
@@ -22,7 +22,7 @@ unfolding q
 loop-holds c =
     let x = c.before.args.self.0 in
     let l : x % q < q = mod-lt x (search rules) in
-    (l, l, same q (one_mul _) ∙ mod-eq_of_lt (inverse_lt (x % q) l))
+    (l, l, same q (one-mul _) ∙ mod-eq_of_lt (inverse_lt (x % q) l))
 
 div-t6 : tie.Need-nonzero-div-t6 invariant-loop decreases-loop
 div-t6 c = search rules
