@@ -42,7 +42,7 @@ P_is = refl
 -- ---- powers modulo P, of any number
 
 power_add : (v a b : ℕ) → power_of P v (a + b) ≡ power_of P v a * power_of P v b % P
-power_add v a b = simp W.power_is (ap (λ (x : ℕ). x % P) (N.pow_add v a b) ∙ mul_mod (v ^ a) (v ^ b) P)
+power_add v a b = simp W.power_is (ap (λ (x : ℕ). x % P) (N.pow-add v a b) ∙ mul_mod (v ^ a) (v ^ b) P)
 
 power_mul : (v a b : ℕ) → power_of P v (a * b) ≡ power_of P (power_of P v a) b
 power_mul v a b = simp W.power_is (ap (λ (x : ℕ). x % P) (W.pow_mul v a b) ∙ sym (W.pow_mod (v ^ a) b P))

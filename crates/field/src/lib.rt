@@ -1,5 +1,6 @@
 // Scalars modulo q and group elements modulo P, two kinds of number that are never taken for one another.
 #![tactic(auto)]
+
 ghost use Rattle.std.specs.Prelude.{◌≡◌, ◌<◌};
 ghost use Rattle.field.specs.Definitions.{scalar, identity, generator, power_of, reduced, plus, minus, times, inverse, power, is_scalar, same_element, product, powered, raise, read_element, some_element};
 

@@ -1,5 +1,6 @@
 // Sets of parties 1 to 64 as masks of 64 bits: party i is bit i - 1.
 #![tactic(auto)]
+
 ghost use Rattle.std.specs.Prelude.{◌≡◌, ◌^◌, ◌<◌};
 ghost use Rattle.std.specs.Int.Bits.{bit_or};
 ghost use Rattle.sets.specs.Masks.{has, mask_bits, insert, minus, count};

@@ -9,39 +9,24 @@ use lib.Bits.{bit_and, and_mask}
 use Rattle.sets.specs.Masks.{has, mask_bits, count}
 use Rattle.sets.specs.BitLaws.{one_shifted}
 use Rattle.sets.specs.Sizes.{size_width, size_low}
-use Rattle.sets.proofs.size.Statement.{statement}
-use Rattle.sets.proofs.size.Tie as tie
+use Rattle.sets.proofs.size.Goals as goal
 
-bits-set-requires : tie.Need-bits-set-requires
-bits-set-requires c κs = search rules
-
-returns : tie.Need-returns
-returns c =
+pub returns-then-n-ge-MASK_BITS : goal.returns-then-n-ge-MASK_BITS
+returns-then-n-ge-MASK_BITS c =
     let b = c.before in
     let a = b.before.args in
-    c.bits-set.ensures ∙ sym (size_width a.n mask_bits a.mask b.if1.true b.before.ranges.mask.fits)
+    c.bits_set.ensures ∙ sym (size_width a.n mask_bits a.mask b.if-n-ge-MASK_BITS.true b.before.ranges.mask.fits)
 
-shl-bits-set : tie.Need-overflow-shl-bits-set
-shl-bits-set c = search rules
+pub overflow_sub-n : goal.overflow_sub-n
+overflow_sub-n c = let n = c.before.args.n in omega (arith, one_shifted n (omega arith), pow_pos n)
 
-sub-bits-set : tie.Need-overflow-sub-bits-set
-sub-bits-set c = let n = c.before.args.n in omega (arith, one_shifted n (omega arith), pow_pos n)
-
-bits-set-requires-2 : tie.Need-bits-set-requires-2
-bits-set-requires-2 c κs = search rules
-
-returns-2 : tie.Need-returns-2
-returns-2 c =
+pub returns : goal.returns
+returns c =
     let a = c.before.before.args in
     let n = a.n in
     let mask = a.mask in
     let cut = ap (λ (x : ℕ). bit_and mask (x - 1)) (one_shifted n (omega arith)) ∙ and_mask mask n in
-    c.bits-set2.ensures
+    c.bits_set-2.ensures
     ∙ ap (λ (x : ℕ). count mask_bits (has x)) cut
     ∙ size_width mask_bits n (mask % 2 ^ n) (omega arith) (mod-lt mask (pow_pos n))
     ∙ size_low n mask
-
-pub size_spec : {M : Type 1} → statement M
-size_spec =
-    tie.close
-    (tie.spec bits-set-requires returns shl-bits-set sub-bits-set bits-set-requires-2 returns-2)

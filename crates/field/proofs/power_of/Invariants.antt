@@ -1,0 +1,16 @@
+-- `power_of` meets its contract. The loop keeps product × square ^ left modulo m, until none or one is left. Assumes nothing.
+use borrow.Author.Rules.{rules}
+use native.Mathlib.Omega.{arith}
+use native.Mathlib.Nat.{pow-zero, mod-lt, one-mul}
+use mathlib.Core.Logic.{⊎_elim}
+use mathlib.Core.Path.{◌≡◌, ◌∙◌, ap, sym}
+use Prim.Native.Nat.{ℕ, ◌*◌, ◌%◌, ◌^◌, ◌<◌}
+use Rattle.field.specs.PowerLaws.{pow_one, power_is, even_turn, odd_turn}
+use Rattle.field.proofs.Fits.{product_fits}
+use Rattle.field.proofs.power_of.Given as goal
+
+abbrev pub invariant-loop-left : goal.invariant-loop-left
+invariant-loop-left l = (l.product < l.m) × (l.square < 2 ^ 32) × (l.product * l.square ^ l.left % l.m ≡ l.initial.square ^ l.initial.left % l.m)
+
+abbrev pub decreases-loop-left : goal.decreases-loop-left
+decreases-loop-left l = l.left
