@@ -1,5 +1,6 @@
 // Products of powers, factor by factor, with one chain of squarings for all of them.
 #![tactic(auto)]
+
 ghost use Rattle.std.specs.Prelude.{◌≡◌};
 ghost use Rattle.field.specs.Definitions.{identity, product, raise};
 ghost use Rattle.chains.specs.Definitions.{chain_value};

@@ -1,5 +1,6 @@
 // Standard input and output, as the programs use them.
 #![tactic(auto)]
+
 use libc::{STDERR_FILENO, STDIN_FILENO, STDOUT_FILENO};
 
 // Whether standard input has ended: one more read gives nothing, and does not fail.

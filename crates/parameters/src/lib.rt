@@ -1,5 +1,6 @@
 // The parameters of a committee: their bounds, and what follows from them.
 #![tactic(auto)]
+
 ghost use Rattle.std.specs.Prelude.{◌≡◌};
 ghost use Rattle.parameters.specs.Definitions.{in_bounds, quorum, batch, is_party};
 

@@ -1,5 +1,6 @@
 // Records: bytes, numbers, tags and lengths.
 #![tactic(auto)]
+
 ghost use Rattle.std.specs.Prelude.{◌≡◌};
 ghost use Rattle.records.specs.Bytes.{byte_at, number_at, word};
 ghost use Rattle.records.specs.Tags.{code, tag_of, setup_length, dealing_length, complaint_length, challenges_length, shifted_length, response_length, shares_from, mask_width, mask_at};

@@ -1,5 +1,6 @@
 // Text into a buffer that the caller lends, at a place with room for it: bytes, numbers in base ten, lines, the line of a set. Each answers the place after it.
 #![tactic(auto)]
+
 ghost use Rattle.std.specs.Prelude.{◌+◌, ◌*◌, ◌≤◌, length};
 ghost use Rattle.text.specs.Lines.{decimal, field, line, set_line};
 ghost use Rattle.text.specs.Texts.{Wrote};

@@ -2,12 +2,8 @@
 use Rattle.lists.specs.Stores.{filled}
 use Rattle.chains.specs.Definitions.{most_digits, chain_value}
 use Rattle.chains.specs.ChainLaws.{value_none}
-use Rattle.chains.proofs.Chain.none.Statement.{statement}
-use Rattle.chains.proofs.Chain.none.Tie as tie
+use Rattle.chains.proofs.Chain.none.Goals as goal
 
-returns : tie.Need-returns
+pub returns : goal.returns
 unfolding chain_value filled
 returns c = value_none most_digits 0 most_digits
-
-pub none_spec : {M : Type 1} → statement M
-none_spec = tie.close (tie.spec returns)

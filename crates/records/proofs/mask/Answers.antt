@@ -1,0 +1,44 @@
+-- `mask` meets its contract. The loop has read the bytes passed, whose number has 8 bits for each. Assumes nothing.
+use borrow.Author.Rules.{rules}
+use native.Mathlib.Omega.{arith}
+use native.Mathlib.Nat.{le_trans}
+use mathlib.Core.Path.{◌≡◌, refl, sym, ap, ◌∙◌}
+use Prim.Native.Nat.{ℕ, ◌+◌, ◌*◌, ◌-◌, ◌^◌, ◌≤◌, ◌<◌}
+use lib.Pow.{pow-add, pow_mono}
+use Rattle.records.specs.Bytes.{wide_at}
+use Rattle.records.specs.Tags.{mask_at}
+use Rattle.records.specs.RecordLaws.{width_max}
+use Rattle.records.specs.MaskLaws.{wide_next}
+use Rattle.records.proofs.mask.Goals as goal
+
+pub loop-i-init : goal.loop-i-init
+unfolding wide_at
+loop-i-init c = (omega arith, rw c.mask_width-width.ensures (width_max _), omega arith, refl)
+
+-- there is room for one byte more
+room : (c : goal.In-loop-i) → c.before.loop-i.number < 2 ^ 56
+room c =
+    let l = c.before.loop-i in
+    le_trans l.invariant.2 (pow_mono {i = 8 * l.i} {j = 56} (omega (arith, c.loop-i-test.true)))
+
+pub overflow_mul-number : goal.overflow_mul-number
+overflow_mul-number c = omega (arith, room c)
+
+pub overflow_add-number : goal.overflow_add-number
+overflow_add-number c = omega (arith, room c.before)
+
+pub loop-i-preserved : goal.loop-i-preserved
+loop-i-preserved c =
+    let at = c.before.before in
+    let l = at.loop-i in
+    let s = at.before.before.before.args.s.now in
+    let more : 2 ^ (8 * (l.i + 1)) ≡ 2 ^ (8 * l.i) * 256 = ap (λ (k : ℕ). 2 ^ k) (omega arith) ∙ pow-add 2 (8 * l.i) 8 in
+    (omega arith, l.invariant.1, omega (arith, more), rw (l.invariant.3, c.byte.ensures) (sym (wide_next l.i s 4)))
+
+pub returns : goal.returns
+unfolding mask_at
+returns c =
+    let l = c.before.loop-i in
+    let known = c.before.before in
+    let end : l.i ≡ known.mask_width-width.result = omega arith in
+    l.invariant.3 ∙ ap (λ (k : ℕ). wide_at k known.before.before.args.s.now 4) (end ∙ known.mask_width-width.ensures)

@@ -1,0 +1,8 @@
+-- `word` meets its contract. Assumes nothing.
+use borrow.Author.Rules.{rules}
+use Rattle.records.specs.Bytes.{word}
+use Rattle.records.proofs.word.Goals as goal
+
+pub returns : goal.returns
+unfolding word
+returns c = c.number.ensures

@@ -1,0 +1,18 @@
+-- `put_field` meets its contract. Assumes nothing.
+use mathlib.Core.Path.{◌∙◌}
+use native.Mathlib.Omega.{arith}
+use borrow.Author.Rules.{rules}
+use lib.ListN.{length-set}
+use Rattle.text.specs.Lines.{field}
+use Rattle.text.specs.TextLaws.{wrote_byte, wrote_append}
+use Rattle.text.proofs.put_field.Goals as goal
+
+pub put_decimal-requires : goal.put_decimal-requires
+put_decimal-requires c = simp length-set (omega arith)
+
+pub shape_of-out : goal.shape_of-out
+shape_of-out c = c.before.before.put_decimal.auto.0 ∙ simp length-set
+
+pub returns : goal.returns
+unfolding field
+returns c = wrote_append (wrote_byte _ _ 32) c.before.before.put_decimal.ensures

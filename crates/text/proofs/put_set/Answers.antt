@@ -1,0 +1,104 @@
+-- `put_set` meets its contract. The loop has stored the fields of the members among the parties that it passed. Assumes nothing.
+use mathlib.Core.Path.{◌≡◌, refl, subst, subst⁻¹, ◌∙◌}
+use mathlib.Core.Logic.{⊎_elim}
+use mathlib.Core.List.{List, [], ◌∷◌}
+use Prim.Native.Nat.{ℕ, ◌+◌, ◌*◌, ◌-◌, ◌≤◌, ◌<◌}
+use native.Mathlib.Omega.{arith}
+use borrow.Author.Rules.{rules}
+use lib.ListN.{length, length-set}
+use Rattle.sets.specs.Masks.{has, members_from, members}
+use Rattle.sets.specs.MemberLaws.{members_next, count_le}
+use Rattle.text.specs.Lines.{fields, set_text, set_line}
+use Rattle.text.specs.Texts.{Wrote}
+use Rattle.text.specs.TextLaws.{wrote_none, wrote_length, wrote_byte, wrote_append}
+use Rattle.text.specs.LineLaws.{fields_snoc, fields_max, set_text_none, set_text_some, set_text_max}
+use Rattle.text.proofs.put_set.Goals as goal
+use Rattle.text.proofs.put_set.Goals.{then-has, else-has}
+
+pub loop-i-init : goal.loop-i-init
+unfolding fields members_from
+loop-i-init c = (omega arith, wrote_none _ _)
+
+-- the buffer is as long as it was, and the place has gone on by at most 11 for each party
+room : (c : goal.At-loop-i) →
+    let a = c.before.before.before.before.before.before.before.args in
+    (length c.loop-i.out-1 ≡ length a.out-1.now) × (c.loop-i.next ≤ a.at + length a.word.now + 11 * c.loop-i.i)
+room c =
+    let t = c.before.before.before in
+    let a = t.before.before.before.before.args in
+    let w = c.loop-i.invariant.1 in (
+      wrote_length w ∙ t.put_text-start.auto.0,
+      omega (arith, w.place, t.put_text-start.ensures.place, fields_max (members c.loop-i.i (has a.mask)), count_le c.loop-i.i (has a.mask)),
+    )
+
+pub put_field-next-requires : goal.put_field-next-requires
+put_field-next-requires c = omega (arith, room c.before.before.before.before)
+
+pub loop-i-smaller : goal.loop-i-smaller
+loop-i-smaller c = omega arith
+
+pub loop-i-preserved : goal.loop-i-preserved
+loop-i-preserved c =
+    let h = c.before in
+    let l = h.before.before in
+    let mask = l.before.before.before.before.before.before.before.args.mask in
+    let next = members_next l.loop-i.i (has mask) in (
+      omega arith,
+      elim c.if-has.branch [
+        | then-has w ↦
+            rw (w.5, w.6, next, ← h.has.ensures, w.if-has.true, fields_snoc) (wrote_append l.loop-i.invariant.1 w.2.ensures)
+        | else-has w ↦
+            rw (w.1, w.2, next, ← h.has.ensures, w.if-has.false) l.loop-i.invariant.1
+      ],
+    )
+
+pub put_text-next-requires : goal.put_text-next-requires
+put_text-next-requires c = omega (arith, room c.before.before.before.before)
+
+-- no field stored: ` -` is the set's text
+dash : {l m k : List ℕ} {i n j : ℕ} (set : List ℕ) → Wrote l m i n (fields set) → n ≡ i → Wrote m k n j (32 ∷ 45 ∷ []) → Wrote l k i j (set_text set)
+dash {l} {m} {k} {i} {n} {j} set w e d = subst (λ (t : List ℕ). Wrote l k i j t) (set_text_none set (omega (arith, w.place))) (wrote_append w d)
+
+-- some field stored: the fields are
+some : {l m : List ℕ} {i n : ℕ} (set : List ℕ) → Wrote l m i n (fields set) → (n ≡ i → ⊥) → Wrote l m i n (set_text set)
+some {l} {m} {i} {n} set w d = subst⁻¹ (λ (t : List ℕ). Wrote l m i n t) (set_text_some set (λ e. d (omega (arith, w.place)))) w
+
+-- where the two ways meet the set's text is stored
+texted : (c : goal.Joined-next-start) →
+    let t = c.before.before.before.before.before in
+    let a = t.before.before.before.before.args in
+    Wrote t.put_text-start.new.0 c.if-next-start.out-1 t.put_text-start.result c.if-next-start.next (set_text (members a.n (has a.mask)))
+texted c =
+    let l = c.before.before in
+    let t = l.before.before.before in
+    let a = t.before.before.before.before.args in
+    let end : l.loop-i.i ≡ a.n = omega arith in
+    let w : Wrote t.put_text-start.new.0 l.loop-i.out-1 t.put_text-start.result l.loop-i.next (fields (members a.n (has a.mask))) = rw end at l.loop-i.invariant.1 in
+    ⊎_elim (λ y. rw (y.6, y.7) (dash (members a.n (has a.mask)) w y.0.true y.3.ensures)) (λ y. rw (y.1, y.2) (some (members a.n (has a.mask)) w y.0.left)) c.if-next-start.branch
+
+-- and there is room for a byte more
+end_room : (c : goal.Joined-next-start) →
+    let a = c.before.before.before.before.before.before.before.before.before.args in
+    (length c.if-next-start.out-1 ≡ length a.out-1.now) × (c.if-next-start.next < length a.out-1.now)
+end_room c =
+    let t = c.before.before.before.before.before in
+    let a = t.before.before.before.before.args in
+    let w = texted c in (
+      wrote_length w ∙ t.put_text-start.auto.0,
+      omega (arith, w.place, t.put_text-start.ensures.place, set_text_max (members a.n (has a.mask)), count_le a.n (has a.mask), t.before.before.before.before.requires),
+    )
+
+pub bounds-out-next : goal.bounds-out-next
+bounds-out-next c = omega (arith, end_room c)
+
+pub overflow_add-result : goal.overflow_add-result
+overflow_add-result c = omega (arith, end_room c.before)
+
+pub shape_of-out : goal.shape_of-out
+shape_of-out c = simp length-set (end_room c.before).0
+
+pub returns : goal.returns
+unfolding set_line
+returns c =
+    let t = c.before.before.before.before.before.before in
+    wrote_append t.put_text-start.ensures (wrote_append (texted c.before) (wrote_byte _ _ 10))
