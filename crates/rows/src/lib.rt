@@ -1,5 +1,6 @@
 // Lists of scalars with their count: the weights of points, and what they make of scalars and of elements.
 #![tactic(auto)]
+
 ghost use Rattle.std.specs.Prelude.{◌≡◌};
 ghost use Rattle.rows.specs.Definitions.{size, nth, weights_of, scale, basis_of, weights_by, sum_of, product_of};
 ghost use Rattle.rows.specs.BasisLaws.{partial_products, reversed};

@@ -16,16 +16,14 @@ unfolding wide_at
 loop-i-init c = (omega arith, rw c.mask_width-width.ensures (width_max _), omega arith, refl)
 
 -- there is room for one byte more
-room : (c : goal.In-loop-i) → c.before.loop-i.number < 2 ^ 56
-room c =
-    let l = c.before.loop-i in
-    le_trans l.invariant.2 (pow_mono {i = 8 * l.i} {j = 56} (omega (arith, c.loop-i-test.true)))
+room : (i width number : ℕ) → i < width → width ≤ 8 → number < 2 ^ (8 * i) → number < 2 ^ 56
+room i width number h m l = le_trans l (pow_mono {i = 8 * i} {j = 56} (omega arith))
 
 pub overflow_mul-number : goal.overflow_mul-number
-overflow_mul-number c = omega (arith, room c)
+overflow_mul-number c = omega (arith, room _ _ _ c.loop-i-test.true c.loop-i.invariant.1 c.loop-i.invariant.2)
 
 pub overflow_add-number : goal.overflow_add-number
-overflow_add-number c = omega (arith, room c.before)
+overflow_add-number c = omega (arith, room _ _ _ c.loop-i-test.true c.loop-i.invariant.1 c.loop-i.invariant.2)
 
 pub loop-i-preserved : goal.loop-i-preserved
 loop-i-preserved c =

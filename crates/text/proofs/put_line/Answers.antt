@@ -18,7 +18,7 @@ loop-i-init c = (omega arith, wrote_none _ _)
 -- the buffer is as long as it was, and the place has gone on by at most 11 for each number
 room : (c : goal.At-loop-i) →
     let a = c.before.before.before.before.before.before.before.before.args in
-    (length c.loop-i.out-1 ≡ length a.out-1.now) × (c.loop-i.next ≤ a.at + length a.word.now + 11 * c.loop-i.i)
+    (length c.loop-i.out ≡ length a.out.now) × (c.loop-i.next ≤ a.at + length a.word.now + 11 * c.loop-i.i)
 room c =
     let t = c.before.before.before in
     let a = t.before.before.before.before.before.args in

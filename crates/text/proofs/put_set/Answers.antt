@@ -22,7 +22,7 @@ loop-i-init c = (omega arith, wrote_none _ _)
 -- the buffer is as long as it was, and the place has gone on by at most 11 for each party
 room : (c : goal.At-loop-i) →
     let a = c.before.before.before.before.before.before.before.args in
-    (length c.loop-i.out-1 ≡ length a.out-1.now) × (c.loop-i.next ≤ a.at + length a.word.now + 11 * c.loop-i.i)
+    (length c.loop-i.out ≡ length a.out.now) × (c.loop-i.next ≤ a.at + length a.word.now + 11 * c.loop-i.i)
 room c =
     let t = c.before.before.before in
     let a = t.before.before.before.before.args in
@@ -67,19 +67,19 @@ some {l} {m} {i} {n} set w d = subst⁻¹ (λ (t : List ℕ). Wrote l m i n t) (
 texted : (c : goal.Joined-next-start) →
     let t = c.before.before.before.before.before in
     let a = t.before.before.before.before.args in
-    Wrote t.put_text-start.new.0 c.if-next-start.out-1 t.put_text-start.result c.if-next-start.next (set_text (members a.n (has a.mask)))
+    Wrote t.put_text-start.new.0 c.if-next-start.out t.put_text-start.result c.if-next-start.next (set_text (members a.n (has a.mask)))
 texted c =
     let l = c.before.before in
     let t = l.before.before.before in
     let a = t.before.before.before.before.args in
     let end : l.loop-i.i ≡ a.n = omega arith in
-    let w : Wrote t.put_text-start.new.0 l.loop-i.out-1 t.put_text-start.result l.loop-i.next (fields (members a.n (has a.mask))) = rw end at l.loop-i.invariant.1 in
+    let w : Wrote t.put_text-start.new.0 l.loop-i.out t.put_text-start.result l.loop-i.next (fields (members a.n (has a.mask))) = rw end at l.loop-i.invariant.1 in
     ⊎_elim (λ y. rw (y.6, y.7) (dash (members a.n (has a.mask)) w y.0.true y.3.ensures)) (λ y. rw (y.1, y.2) (some (members a.n (has a.mask)) w y.0.left)) c.if-next-start.branch
 
 -- and there is room for a byte more
 end_room : (c : goal.Joined-next-start) →
     let a = c.before.before.before.before.before.before.before.before.before.args in
-    (length c.if-next-start.out-1 ≡ length a.out-1.now) × (c.if-next-start.next < length a.out-1.now)
+    (length c.if-next-start.out ≡ length a.out.now) × (c.if-next-start.next < length a.out.now)
 end_room c =
     let t = c.before.before.before.before.before in
     let a = t.before.before.before.before.args in

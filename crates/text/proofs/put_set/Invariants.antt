@@ -15,7 +15,7 @@ use Rattle.text.specs.LineLaws.{fields_snoc, fields_max, set_text_none, set_text
 use Rattle.text.proofs.put_set.Given as goal
 
 abbrev pub invariant-loop-i : goal.invariant-loop-i
-invariant-loop-i l = (i ≤ l.n) × Wrote l.initial.out l.next l.initial.next l.i (fields (members i (has l.mask)))
+invariant-loop-i l = (l.i ≤ l.n) × Wrote l.initial.out l.out l.initial.next l.next (fields (members l.i (has l.mask)))
 
 abbrev pub decreases-loop-i : goal.decreases-loop-i
-decreases-loop-i l = l.n - i
+decreases-loop-i l = l.n - l.i

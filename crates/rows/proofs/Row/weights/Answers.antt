@@ -4,19 +4,9 @@ use mathlib.Core.Path.{◌∙◌, ap}
 use Rattle.rows.specs.declared.Basis.{Basis}
 use Rattle.rows.specs.Definitions.{weights_by}
 use Rattle.rows.specs.BasisLaws.{weights_by_is}
-use Rattle.rows.proofs.Row.weights.Statement.{statement}
-use Rattle.rows.proofs.Row.weights.Tie as tie
+use Rattle.rows.proofs.Row.weights.Goals as goal
 
-basis-requires : tie.Need-basis-requires
-basis-requires c κs = search rules
-
-weights-requires : tie.Need-weights-requires
-weights-requires c κs = search rules
-
-returns : tie.Need-returns
+pub returns : goal.returns
 returns c =
     let a = c.before.before.args in
     c.weights.ensures ∙ ap (λ (b : Basis). weights_by b a.x) c.before.basis.ensures ∙ weights_by_is a.self a.x
-
-pub weights_spec : {M : Type 1} → statement M
-weights_spec = tie.close (tie.spec basis-requires weights-requires returns)

@@ -1,0 +1,15 @@
+-- `Row::basis` meets its contract. The loop has stored the scales passed. Assumes nothing.
+use borrow.Author.Rules.{rules}
+use native.Mathlib.Omega.{arith}
+use mathlib.Core.Path.{◌≡◌, ap, sym}
+use Prim.Native.Nat.{◌-◌, ◌≤◌}
+use Rattle.rows.specs.declared.Row.{Row}
+use Rattle.rows.specs.Definitions.{size, nth, scale, basis_of}
+use Rattle.rows.specs.RowLaws.{front, front_none, front_next, front_row}
+use Rattle.rows.proofs.Row.basis.Given as goal
+
+abbrev pub invariant-loop-i : goal.invariant-loop-i
+invariant-loop-i l = (l.i ≤ l.m) × (l.m ≡ size l.self) × (l.scales ≡ front l.i (scale (nth l.self) (size l.self)))
+
+abbrev pub decreases-loop-i : goal.decreases-loop-i
+decreases-loop-i l = l.m - l.i

@@ -1,0 +1,15 @@
+-- `Row::reversed` meets its contract. The loop has stored the points passed. Assumes nothing.
+use borrow.Author.Rules.{rules}
+use native.Mathlib.Omega.{arith}
+use mathlib.Core.Path.{◌≡◌, sym}
+use Prim.Native.Nat.{◌-◌, ◌≤◌}
+use Rattle.rows.specs.Definitions.{size, nth}
+use Rattle.rows.specs.BasisLaws.{reversed}
+use Rattle.rows.specs.RowLaws.{front, front_none, front_next, front_row}
+use Rattle.rows.proofs.Row.reversed.Given as goal
+
+abbrev pub invariant-loop-i : goal.invariant-loop-i
+invariant-loop-i l = (l.i ≤ l.m) × (l.m ≡ size l.self) × (l.at ≡ front l.i (λ k. nth l.self (size l.self - 1 - k)))
+
+abbrev pub decreases-loop-i : goal.decreases-loop-i
+decreases-loop-i l = l.m - l.i

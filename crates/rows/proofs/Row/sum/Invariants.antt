@@ -1,0 +1,17 @@
+-- `Row::sum` meets its contract. The loop keeps the sum of weight × value over the places passed. Assumes nothing.
+use borrow.Author.Rules.{rules}
+use native.Mathlib.Omega.{arith}
+use mathlib.Core.Path.{◌≡◌, ◌∙◌, ap, ap₂, sym}
+use Prim.Native.Nat.{ℕ, ◌-◌, ◌≤◌}
+use lib.ListN.{get_or}
+use Rattle.algebra.specs.Fold.{fold}
+use Rattle.algebra.specs.FoldLaws.{fold_zero, fold_next}
+use Rattle.field.specs.Definitions.{scalar, plus, times}
+use Rattle.rows.specs.Definitions.{size, nth, sum_of}
+use Rattle.rows.proofs.Row.sum.Given as goal
+
+abbrev pub invariant-loop-i : goal.invariant-loop-i
+invariant-loop-i l = (l.i ≤ l.m) × (l.m ≡ size l.self) × (l.sum ≡ fold plus (scalar 0) l.i (λ k. times (nth l.self k) (get_or l.values k (scalar 0))))
+
+abbrev pub decreases-loop-i : goal.decreases-loop-i
+decreases-loop-i l = l.m - l.i
