@@ -1,5 +1,6 @@
 // Numbers as bytes, high byte first, into a buffer that the caller lends, at a place with room for them.
 #![tactic(auto)]
+
 ghost use Rattle.std.specs.Prelude.{◌≡◌, ◌+◌, ◌*◌, ◌≤◌, length, get_or};
 ghost use Rattle.std.proofs.lemmas.List.Edits.{sets};
 ghost use Rattle.encoding.specs.Bytes.{bytes_of, four, fours, power_of_four};

@@ -1,5 +1,6 @@
 // The points of the scheme: those of parties, of packed slots, and where values are committed to.
 #![tactic(auto)]
+
 ghost use Rattle.std.specs.Prelude.{◌≡◌, ◌+◌};
 ghost use Rattle.interpolation.specs.Definitions.{point, slot, committed_point};
 ghost use Rattle.rows.specs.Definitions.{listed};

@@ -1,5 +1,6 @@
 // What is refused of a record from the input alone: refusals 2 to 8, and 16.
 #![tactic(auto)]
+
 ghost use Rattle.std.specs.Prelude.{◌≡◌};
 ghost use Rattle.lists.specs.Tests.{all_to};
 ghost use Rattle.field.specs.Definitions.{is_scalar, is_element};

@@ -1,6 +1,7 @@
 // Each tag is taken at one stage only: which handler takes a record by its tag and the run's stage. When the dealings bring stage 2, when a GO is taken,
 // and which b goes with a stage.
 #![tactic(auto)]
+
 ghost use Rattle.std.specs.Prelude.{◌≡◌, ◌≤◌};
 ghost use Rattle.records.specs.Tags.{decoded};
 ghost use Rattle.stages.specs.Definitions.{handler_at, dealing_stage, go_number, batch_fits};

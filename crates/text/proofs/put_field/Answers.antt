@@ -11,8 +11,8 @@ pub put_decimal-requires : goal.put_decimal-requires
 put_decimal-requires c = simp length-set (omega arith)
 
 pub shape_of-out : goal.shape_of-out
-shape_of-out c = c.before.before.put_decimal.auto.0 ∙ simp length-set
+shape_of-out c = c.put_decimal.auto.out ∙ simp length-set
 
 pub returns : goal.returns
 unfolding field
-returns c = wrote_append (wrote_byte _ _ 32) c.before.before.put_decimal.ensures
+returns c = wrote_append (wrote_byte _ _ 32) c.put_decimal.ensures

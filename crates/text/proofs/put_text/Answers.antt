@@ -22,19 +22,19 @@ loop-i-init c = (omega arith, rw add-zero (wrote_none _ _))
 
 pub bounds-out-at : goal.bounds-out-at
 bounds-out-at c =
-    let l = c.before.before.loop-i in
+    let l = c.loop-i in
     omega (arith, wrote_length l.invariant.1)
 
 pub loop-i-preserved : goal.loop-i-preserved
 loop-i-preserved c =
     let s = c.before.before in
-    (omega arith, text_next s.before.args.at s.loop-i.i s.before.args.text.now (omega arith) s.loop-i.invariant.1)
+    (omega arith, text_next s.args.at s.loop-i.i s.args.text.now (omega arith) s.loop-i.invariant.1)
 
 pub shape_of-out : goal.shape_of-out
-shape_of-out c = wrote_length c.before.loop-i.invariant.1
+shape_of-out c = wrote_length c.loop-i.invariant.1
 
 pub returns : goal.returns
 returns c =
     let s = c.before in
-    let end : s.loop-i.i ≡ length s.before.args.text.now = omega arith in
+    let end : s.loop-i.i ≡ length s.args.text.now = omega arith in
     rw (end, take-length) at s.loop-i.invariant.1

@@ -1,0 +1,16 @@
+-- `put_powers` meets its contract. The loop has put the powers passed. Assumes nothing.
+use mathlib.Core.Path.{◌≡◌, ap}
+use Prim.Native.Nat.{◌-◌, ◌≤◌}
+use native.Mathlib.Omega.{arith}
+use borrow.Author.Rules.{rules}
+use lib.ListN.{length, get_or}
+use Rattle.field.specs.declared.Element.{Element}
+use Rattle.encoding.specs.Bytes.{power_of_four}
+use Rattle.encoding.specs.StoreLaws.{Put, put_none, put_next}
+use Rattle.encoding.proofs.put_powers.Given as goal
+
+abbrev pub invariant-loop-i : goal.invariant-loop-i
+invariant-loop-i l = (l.i ≤ l.count) × Put l.initial.out l.at (λ k. power_of_four (get_or l.list k 0)) l.i l.out
+
+abbrev pub decreases-loop-i : goal.decreases-loop-i
+decreases-loop-i l = l.count - l.i

@@ -1,0 +1,39 @@
+-- `committed_points` meets its contract. The loop has stored the points passed. Assumes nothing.
+use borrow.Author.Rules.{rules}
+use native.Mathlib.Omega.{arith}
+use mathlib.Core.Logic.{⊎_elim}
+use mathlib.Core.Path.{◌≡◌, sym, ◌∙◌}
+use Prim.Native.Nat.{◌-◌, ◌≤◌, min}
+use Rattle.interpolation.specs.Definitions.{committed_point}
+use Rattle.interpolation.specs.PointLaws.{committed_is}
+use Rattle.rows.specs.RowLaws.{front, front_none, front_next, front_row}
+use Rattle.points.proofs.committed_points.Goals as goal
+use Rattle.points.proofs.committed_points.Goals.{then-count-lt-MOST_SCALARS, else-count-lt-MOST_SCALARS}
+
+pub loop-v-init : goal.loop-v-init
+loop-v-init c = (
+  omega arith,
+  elim c.if-count-lt-MOST_SCALARS.branch [
+    | then-count-lt-MOST_SCALARS w ↦
+        omega arith
+    | else-count-lt-MOST_SCALARS w ↦
+        omega arith
+  ],
+  front_none _,
+)
+
+pub loop-v-preserved : goal.loop-v-preserved
+loop-v-preserved c =
+    let a = c.before.before.before.before.args in
+    let l = c.before.before.loop-v in
+    let new : c.point.result ≡ committed_point a.a l.v = c.point.ensures ∙ sym (committed_is a.a l.v) in (
+      omega arith,
+      l.invariant.1,
+      rw (new, l.invariant.2) (sym (front_next l.v (committed_point a.a))),
+    )
+
+pub returns : goal.returns
+returns c =
+    let a = c.before.before.before.args in
+    let l = c.before.loop-v in
+    front_row a.count (committed_point a.a) l.invariant.2 (omega arith) l.invariant.1

@@ -1,0 +1,16 @@
+-- `slot_points` meets its contract. The loop has stored the points passed. Assumes nothing.
+use borrow.Author.Rules.{rules}
+use native.Mathlib.Omega.{arith}
+use mathlib.Core.Logic.{⊎_elim}
+use mathlib.Core.Path.{◌≡◌, sym, ◌∙◌}
+use Prim.Native.Nat.{◌+◌, ◌-◌, ◌≤◌, min}
+use Rattle.interpolation.specs.Definitions.{slot}
+use Rattle.interpolation.specs.PointLaws.{slot_is}
+use Rattle.rows.specs.RowLaws.{front, front_none, front_next, front_row}
+use Rattle.points.proofs.slot_points.Given as goal
+
+abbrev pub invariant-loop-v : goal.invariant-loop-v
+invariant-loop-v l = (l.v ≤ l.m) × (l.m ≡ min l.count 64) × (l.at ≡ front l.v (λ k. slot (k + 1)))
+
+abbrev pub decreases-loop-v : goal.decreases-loop-v
+decreases-loop-v l = l.m - l.v

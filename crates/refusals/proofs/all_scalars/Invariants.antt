@@ -1,0 +1,15 @@
+-- `all_scalars` meets its contract. Every number below i is of the kind. Assumes nothing.
+use borrow.Author.Rules.{rules}
+use native.Mathlib.Omega.{arith}
+use mathlib.Core.Path.{◌≡◌}
+use Prim.Native.Nat.{◌-◌}
+use Rattle.field.specs.Definitions.{is_scalar}
+use Rattle.records.specs.Bytes.{word}
+use Rattle.lists.specs.CallLaws.{Asked, asked_none, asked_more, asked_fails, asked_all}
+use Rattle.refusals.proofs.all_scalars.Given as goal
+
+abbrev pub invariant-loop-i : goal.invariant-loop-i
+invariant-loop-i l = Asked (λ k. is_scalar (word l.s l.at k)) l.count l.i
+
+abbrev pub decreases-loop-i : goal.decreases-loop-i
+decreases-loop-i l = l.count - l.i

@@ -1,0 +1,30 @@
+-- `batch_fits` meets its contract: each test settles one factor of the definition. Assumes nothing.
+use borrow.Author.Rules.{rules}
+use borrow.Author.Tests.{le-leb, lt-leb, eq-eqb, ne_eqb}
+use mathlib.Core.Path.{ap}
+use lib.Dec.{eqb}
+use Prim.Native.Nat.{◌-◌}
+use Rattle.stages.specs.Definitions.{batch_fits}
+use Rattle.stages.proofs.batch_fits.Goals as goal
+
+pub returns-then-m-n : goal.returns-then-m-n
+unfolding batch_fits
+returns-then-m-n c =
+    let a = c.before.before.args in
+    rw (lt-leb _ 1 c.before.if-stage-gt1.true, lt-leb (a.n - a.t) a.m c.if-m-n.true)
+
+pub returns-then-stage-gt1 : goal.returns-then-stage-gt1
+unfolding batch_fits
+returns-then-stage-gt1 c =
+    let a = c.before.before.before.args in
+    rw (lt-leb _ 1 c.before.before.if-stage-gt1.true, le-leb (a.n - a.t) a.m c.before.if-m-n.false) (ap (eqb a.b) c.batch.ensures)
+
+pub returns-then-b-eq0 : goal.returns-then-b-eq0
+unfolding batch_fits
+returns-then-b-eq0 c = rw (le-leb _ 1 c.before.if-stage-gt1.false, eq-eqb _ _ c.if-b-eq0.true)
+
+pub returns : goal.returns
+unfolding batch_fits
+returns c =
+    let a = c.before.before.before.args in
+    rw (le-leb _ 1 c.before.before.if-stage-gt1.false, ne_eqb a.b 0 c.before.if-b-eq0.false) (ap (eqb a.b) c.batch-2.ensures)
