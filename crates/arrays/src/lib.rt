@@ -1,5 +1,6 @@
 // The public values of a committee on flat arrays: the key, the challenges, the values of a set of parties, and the test of a share.
 #![tactic(auto)]
+
 ghost use Rattle.std.specs.Prelude.{◌≡◌, ◌+◌, ◌-◌, min, get_or};
 ghost use Rattle.field.specs.Definitions.{identity, generator, same_element, raise};
 ghost use Rattle.rows.specs.Definitions.{most_scalars, product_of};
