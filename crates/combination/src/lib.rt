@@ -1,5 +1,6 @@
 // The committed values of a set of dealers, combined for each u: one product over the set, raised step by step.
 #![tactic(auto)]
+
 ghost use Rattle.std.specs.Prelude.{◌≡◌, ◌+◌, ◌*◌, ◌-◌, ◌≤◌, ◌<◌, get_or};
 ghost use Rattle.lists.specs.Stores.{stored};
 ghost use Rattle.sets.specs.Masks.{has};

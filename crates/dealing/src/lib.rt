@@ -1,5 +1,6 @@
 // The accepted setup and the accepted dealings: what a run keeps of them, and what one more dealing adds.
 #![tactic(auto)]
+
 ghost use Rattle.std.specs.Prelude.{◌≡◌, true, ◌+◌, ◌≤◌};
 ghost use Rattle.lists.specs.Stores.{stored, filled};
 ghost use Rattle.field.specs.Definitions.{element, identity};

@@ -1,0 +1,26 @@
+-- `raised` meets its contract. The loop has stored the powers passed, those of 1 as they are. Assumes nothing.
+use borrow.Author.Rules.{rules}
+use native.Mathlib.Omega.{arith}
+use mathlib.Core.Logic.{⊎_elim}
+use mathlib.Core.Path.{◌≡◌, refl, sym, ap, ap₂, ◌∙◌}
+use mathlib.Core.List.{List}
+use Prim.Native.Nat.{ℕ, ◌+◌, ◌*◌, ◌-◌, ◌/◌, ◌≤◌, min}
+use lib.ListN.{length, get_or, set}
+use Rattle.lists.specs.Stores.{stored}
+use Rattle.lists.specs.StoreLaws.{get_d_default, stored_first, stored_capped}
+use Rattle.field.specs.declared.Element.{Element}
+use Rattle.field.specs.Definitions.{identity, powered}
+use Rattle.field.specs.ElementLaws.{identity_powered, same_is}
+use Rattle.parameters.specs.Definitions.{stride, places}
+use Rattle.combination.specs.Combination.{raised}
+use Rattle.combination.proofs.raised.Given as goal
+
+-- the power at a place
+abbrev pub power_at : List Element → ℕ → Element
+power_at list at = powered (get_or list at identity) (at / stride + 1)
+
+abbrev pub invariant-loop-at : goal.invariant-loop-at
+invariant-loop-at l = (l.at ≤ l.count) × (l.count ≡ min (l.n * stride) places) × (length l.list ≡ places) × (l.next ≡ stored l.list 0 l.at (power_at l.list))
+
+abbrev pub decreases-loop-at : goal.decreases-loop-at
+decreases-loop-at l = l.count - l.at

@@ -1,0 +1,19 @@
+-- `load_values` meets its contract. The loop has stored the values passed. Assumes nothing.
+use borrow.Author.Rules.{rules}
+use native.Mathlib.Omega.{arith}
+use mathlib.Core.Logic.{⊎_elim}
+use mathlib.Core.Path.{ap}
+use Prim.Native.Nat.{◌-◌}
+use Rattle.lists.specs.Stores.{filled}
+use Rattle.lists.specs.StoreLaws.{length_filled}
+use Rattle.field.specs.Definitions.{element, identity}
+use Rattle.records.specs.Bytes.{word}
+use Rattle.arrays.specs.Arrays.{elements}
+use Rattle.lists.specs.LoadLaws.{Loading, loading_none, loading_in, loading_past, loading_end}
+use Rattle.dealing.proofs.load_values.Given as goal
+
+abbrev pub invariant-loop-v : goal.invariant-loop-v
+invariant-loop-v l = Loading 64 (filled 64 identity) 0 l.count (λ k. element (word l.bytes 4 k)) l.v l.list
+
+abbrev pub decreases-loop-v : goal.decreases-loop-v
+decreases-loop-v l = l.count - l.v
