@@ -1,5 +1,6 @@
 // The accepted complaint rows: what a run keeps of them, what one more adds, and the sets that follow from them.
 #![tactic(auto)]
+
 ghost use Rattle.std.specs.Prelude.{◌≡◌, not, ◌||◌, ◌+◌, ◌≤◌};
 ghost use Rattle.lists.specs.Tests.{all_to};
 ghost use Rattle.sets.specs.Masks.{has};

@@ -60,7 +60,7 @@ loop-i-preserved c =
             ∙ ap₂ product i.loop-i.invariant.1 (value (record { before = record { before = c.before; if-has = w.if-has }; if-at-lt-PLACES = w.if-at-lt-PLACES }))
             ∙ sym (combined_take (has a.qual) (commitment_in a.powers) l.loop-v.v i.loop-i.i (qual ∙ w.if-has.true))
         | else-has w ↦
-            w.product-is ∙ i.loop-i.invariant.1 ∙ sym (combined_skip (has a.qual) (commitment_in a.t1) l.loop-v.v i.loop-i.i (qual ∙ w.if-has.false))
+            w.product-is ∙ i.loop-i.invariant.1 ∙ sym (combined_skip (has a.qual) (commitment_in a.powers) l.loop-v.v i.loop-i.i (qual ∙ w.if-has.false))
       ],
     )
 

@@ -31,7 +31,7 @@ unfolding dealing_length
 room c = (known c).exact
 
 pub returns-then-number-ne0 : goal.returns-then-number-ne0
-returns-then-number-ne0 c = (c.dealing_refused-number.ensures, rw (ne_eqb _ _ c.if-number-ne0.true))
+returns-then-number-ne0 c = record { number = c.dealing_refused-number.ensures; bytes = rw (ne_eqb _ _ c.if-number-ne0.true) }
 
 pub bounds-out-0 : goal.bounds-out-0
 bounds-out-0 c = omega (arith, room c.before)
@@ -52,8 +52,8 @@ pub put_shares-requires : goal.put_shares-requires
 put_shares-requires c =
     let p = c.before.before.before in
     let e = p.before.before in
-    let same : length p.put_powers.new.0 ≡ length e.args.out.now = p.put_powers.auto.out ∙ simp length-set in
-    (bounds_test (known e).bounds, (known e).count, omega (arith, room e, (known e).count))
+    let same : length p.put_powers.new.out ≡ length e.args.out.now = p.put_powers.auto.out ∙ simp length-set in
+    (bounds_test (known e.before).bounds, (known e.before).count, omega (arith, room e.before, (known e.before).count))
 
 pub shape_of-out : goal.shape_of-out
 shape_of-out c =
@@ -71,10 +71,10 @@ returns c =
     let committed : ℕ → ℕ = λ v. power_of_four (get_or a.values.now v 0) in
     let share : ℕ → ℕ = λ j. (share_for a.t a.a a.values.now (j + 1)).0 in
     let head : List ℕ = letter_d ∷ letter_e ∷ a.i ∷ 0 ∷ [] in
-    let after : 4 + 4 * length a.values.now ≡ length head + length (fours m committed) = omega (arith, (known e.before).count, length_fours m committed) in (
-      sym e.if-number-ne0.false ∙ e.dealing_refused-number.ensures,
-      p.put_shares.ensures
-          ∙ ap₂ (λ (l : List ℕ) (at : ℕ). sets l at (fours a.n share)) (q.put_powers.ensures ∙ rw (known e).count) after
+    let after : 4 + 4 * length a.values.now ≡ length head + length (fours m committed) = omega (arith, (known e.before).count, length_fours m committed) in record {
+      number = sym e.if-number-ne0.false ∙ e.dealing_refused-number.ensures;
+      bytes = p.put_shares.ensures
+          ∙ ap₂ (λ (l : List ℕ) (at : ℕ). sets l at (fours a.n share)) (q.put_powers.ensures ∙ rw (known e.before).count) after
           ∙ sets_parts a.out.now head (fours m committed) (fours a.n share)
-          (simp length-append (omega (arith, room e, length_fours m committed, length_fours a.n share))),
-    )
+          (simp length-append (omega (arith, room e.before, length_fours m committed, length_fours a.n share)));
+    }

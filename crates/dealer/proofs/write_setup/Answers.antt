@@ -28,7 +28,7 @@ unfolding setup_length
 room c = (known c).exact
 
 pub returns-then-number-ne0 : goal.returns-then-number-ne0
-returns-then-number-ne0 c = (c.setup_refused-number.ensures, rw (ne_eqb _ _ c.if-number-ne0.true))
+returns-then-number-ne0 c = record { number = c.setup_refused-number.ensures; bytes = rw (ne_eqb _ _ c.if-number-ne0.true) }
 
 pub bounds-out-0 : goal.bounds-out-0
 bounds-out-0 c = omega (arith, room c.before)
@@ -55,8 +55,8 @@ pub put_powers-requires : goal.put_powers-requires
 put_powers-requires c =
     let p = c.before.before.before in
     let e = p.before.before.before in
-    let same : length p.put.new.0 ≡ length e.args.out.now = p.put.auto.out ∙ simp length-set in
-    omega (arith, room e, (known e).count)
+    let same : length p.put.new.out ≡ length e.args.out.now = p.put.auto.out ∙ simp length-set in
+    omega (arith, room e.before, (known e.before).count)
 
 pub shape_of-out : goal.shape_of-out
 shape_of-out c =
@@ -71,9 +71,9 @@ returns c =
     let e = q.before.before.before in
     let a = e.args in
     let key = four (power_of_four a.s) in
-    let shares = fours a.t (λ j. power_of_four (get_or a.shares.now j 0)) in (
-      sym e.if-number-ne0.false ∙ e.setup_refused-number.ensures,
-      p.put_powers.ensures
-          ∙ rw (q.put.ensures, q.pow-key.ensures, (known e).count)
-          (sets_parts a.out.now (letter_s ∷ letter_u ∷ a.n ∷ a.t ∷ a.a ∷ 0 ∷ []) key shares (omega (arith, room e, length_fours a.t (λ j. power_of_four (get_or a.shares.now j 0))))),
-    )
+    let shares = fours a.t (λ j. power_of_four (get_or a.shares.now j 0)) in record {
+      number = sym e.if-number-ne0.false ∙ e.setup_refused-number.ensures;
+      bytes = p.put_powers.ensures
+          ∙ rw (q.put.ensures, q.pow-key.ensures, (known e.before).count)
+          (sets_parts a.out.now (letter_s ∷ letter_u ∷ a.n ∷ a.t ∷ a.a ∷ 0 ∷ []) key shares (omega (arith, room e.before, length_fours a.t (λ j. power_of_four (get_or a.shares.now j 0)))));
+    }

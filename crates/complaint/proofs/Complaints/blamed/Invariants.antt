@@ -1,0 +1,16 @@
+-- `Complaints::blamed` meets its contract. The loop has the union of the kept masks of the parties passed. Assumes nothing.
+use borrow.Author.Rules.{rules}
+use native.Mathlib.Omega.{arith}
+use mathlib.Core.Path.{◌≡◌, sym, ap, ap₂, ◌∙◌}
+use Prim.Native.Nat.{ℕ, ◌+◌, ◌-◌, ◌≤◌}
+use lib.Bits.{bit_or}
+use Rattle.algebra.specs.Fold.{fold}
+use Rattle.algebra.specs.FoldLaws.{fold_zero, fold_next}
+use Rattle.complaint.specs.Definitions.{mask_by, blamed_by}
+use Rattle.complaint.proofs.Complaints.blamed.Given as goal
+
+abbrev pub invariant-loop-i : goal.invariant-loop-i
+invariant-loop-i l = (l.i ≤ l.n) × (l.blamed ≡ fold bit_or 0 l.i (λ j. mask_by l.self (j + 1)))
+
+abbrev pub decreases-loop-i : goal.decreases-loop-i
+decreases-loop-i l = l.n - l.i

@@ -1,0 +1,24 @@
+-- `blames_rightly` meets its contract. No dealer passed is blamed wrongly. Assumes nothing.
+use borrow.Author.Rules.{rules}
+use borrow.Author.Tests.{not-true, not-false}
+use native.Mathlib.Omega.{arith}
+use mathlib.Core.Logic.{⊎_elim}
+use mathlib.Core.Path.{◌≡◌, refl, sym, ◌∙◌}
+use mathlib.Core.Bool.{Bool, true, false, not, ◌||◌, and-false}
+use Prim.Native.Nat.{ℕ, ◌+◌, ◌-◌, ◌≤◌}
+use Rattle.lists.specs.Tests.{all_to}
+use Rattle.lists.specs.TestLaws.{all_next, fails_stays}
+use Rattle.sets.specs.Masks.{has}
+use Rattle.dealing.specs.declared.Dealings.{Dealings}
+use Rattle.dealing.specs.Definitions.{may_blame}
+use Rattle.complaint.proofs.blames_rightly.Given as goal
+
+-- dealer i + 1 is not blamed, or rightly
+abbrev pub rightly : Dealings → ℕ → ℕ → ℕ → Bool
+rightly d j mask i = not (has mask (i + 1)) || may_blame d j (i + 1)
+
+abbrev pub invariant-loop-i : goal.invariant-loop-i
+invariant-loop-i l = (l.i ≤ l.n) × (all_to l.i (rightly l.dealings l.j l.mask) ≡ true)
+
+abbrev pub decreases-loop-i : goal.decreases-loop-i
+decreases-loop-i l = l.n - l.i
