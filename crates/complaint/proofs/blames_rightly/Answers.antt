@@ -47,7 +47,7 @@ loop-i-preserved c =
             | then-has+else-not-may_blame w ↦
                 rw (l.invariant.1, ← c.has.ensures, w.if-has.true, ← w.may_blame.ensures, not-false w.may_blame.result (ap not w.if-not-may_blame.false))
             | else-has w ↦
-                rw (l.invariant.1, ← c.has.ensures, w.left)
+                rw (l.invariant.1, ← c.has.ensures, w.if-has.false)
           ],
     )
 

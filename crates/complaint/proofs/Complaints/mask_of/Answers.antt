@@ -15,13 +15,13 @@ pub returns-then-j-lt1 : goal.returns-then-j-lt1
 returns-then-j-lt1 c =
     let a = c.args in
     let none : a.j ≡ 0 = omega arith in
-    rw none (sym (mask_zero a.t1))
+    rw none (sym (mask_zero a.self))
 
 pub returns-then-j-gt-MOST_PARTIES : goal.returns-then-j-gt-MOST_PARTIES
 returns-then-j-gt-MOST_PARTIES c =
     let a = c.args in
-    let long : length a.t1.masks ≡ most_parties = search rules in
-    sym (mask_past a.t1 a.j (omega arith))
+    let long : length a.self.masks ≡ most_parties = search rules in
+    sym (mask_past a.self a.j (omega arith))
 
 pub returns-then-not-has : goal.returns-then-not-has
 returns-then-not-has c =

@@ -38,8 +38,8 @@ left c =
 
 pub returns-then-not-blames_rightly : goal.returns-then-not-blames_rightly
 unfolding require
-returns-then-not-blames_rightly c = rw (not-true c.blames_rightly.result (ap not c.if-not-blames_rightly.true)) at (left c.before)
+returns-then-not-blames_rightly c = rw (not-true c.blames_rightly.result (ap not c.if-not-blames_rightly.true)) at (left c.before.before)
 
 pub returns : goal.returns
 unfolding require
-returns c = rw (not-false c.blames_rightly.result (ap not c.if-not-blames_rightly.false)) at (left c.before)
+returns c = rw (not-false c.blames_rightly.result (ap not c.if-not-blames_rightly.false)) at (left c.before.before)

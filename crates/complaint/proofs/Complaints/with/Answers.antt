@@ -30,7 +30,7 @@ returns c =
     let s = a.bytes.now in
     let party = place.byte-j.ensures in
     let at : place.predecessor-at.result ≡ sender s - 1 = place.predecessor-at.ensures ∙ ap (λ (j : ℕ). j - 1) party in
-    let size = long start in
+    let size = long start.before in
     let holders = c.insert.ensures ∙ ap (insert a.self.holders) party in
     let masks : kept.if-at-lt-PARTIES.masks ≡ set a.self.masks (sender s - 1) (mask_at a.n s) =
     elim kept.if-at-lt-PARTIES.branch [
