@@ -1,5 +1,6 @@
 // Response numbers against what is kept: the test of a row, and C_u(x).
 #![tactic(auto)]
+
 ghost use Rattle.std.specs.Prelude.{◌≡◌, true, ◌≤◌};
 ghost use Rattle.parameters.specs.Definitions.{in_bounds};
 ghost use Rattle.protocol.specs.Transcript.{combined_at};
