@@ -1,5 +1,6 @@
 // The accepted response rows: when one is taken, what one more adds, and φ from what is kept.
 #![tactic(auto)]
+
 ghost use Rattle.std.specs.Prelude.{◌≡◌, true, ◌≤◌};
 ghost use Rattle.lists.specs.Stores.{stored};
 ghost use Rattle.field.specs.Definitions.{scalar};

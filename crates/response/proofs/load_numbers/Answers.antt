@@ -1,0 +1,28 @@
+-- `load_numbers` meets its contract. The loop has stored the scalars passed. Assumes nothing.
+use borrow.Author.Rules.{rules}
+use native.Mathlib.Omega.{arith}
+use mathlib.Core.Logic.{⊎_elim}
+use mathlib.Core.Path.{ap}
+use Prim.Native.Nat.{◌-◌}
+use Rattle.field.specs.Definitions.{scalar}
+use Rattle.parameters.specs.Definitions.{places}
+use Rattle.records.specs.Bytes.{word}
+use Rattle.lists.specs.LoadLaws.{Loading, loading_none, loading_in, loading_past, loading_end}
+use Rattle.response.proofs.load_numbers.Goals as goal
+use Rattle.response.proofs.load_numbers.Goals.{then-at-lt-PLACES, else-at-lt-PLACES}
+
+pub loop-x-init : goal.loop-x-init
+loop-x-init c = loading_none (search rules)
+
+pub loop-x-preserved : goal.loop-x-preserved
+loop-x-preserved c =
+    let l = c.loop-x in
+    elim c.if-at-lt-PLACES.branch [
+      | then-at-lt-PLACES w ↦
+          loading_in l.invariant (omega arith) (omega arith) (ap scalar w.word.ensures) w.next-is
+      | else-at-lt-PLACES w ↦
+          loading_past l.invariant (omega arith) (omega arith) w.next-is
+    ]
+
+pub returns : goal.returns
+returns c = loading_end c.loop-x.invariant (omega arith)
