@@ -1,5 +1,6 @@
 // The run: what it keeps, and what a record does to it.
 #![tactic(auto)]
+
 ghost use Rattle.std.specs.Prelude.{◌≡◌, true, ◌+◌, ◌≤◌};
 ghost use Rattle.lists.specs.Tests.{require, or_next};
 ghost use Rattle.parameters.specs.Definitions.{in_bounds};

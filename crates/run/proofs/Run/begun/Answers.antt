@@ -6,12 +6,8 @@ use Rattle.complaint.specs.Definitions.{no_complaints}
 use Rattle.response.specs.Definitions.{no_responses}
 use Rattle.challenge.specs.Definitions.{no_challenges}
 use Rattle.run.specs.Runs.{no_scalars, begun}
-use Rattle.run.proofs.Run.begun.Statement.{statement}
-use Rattle.run.proofs.Run.begun.Tie as tie
+use Rattle.run.proofs.Run.begun.Goals as goal
 
-returns : tie.Need-returns
+pub returns : goal.returns
 unfolding begun no_dealings no_complaints no_challenges no_responses no_scalars filled
 returns c = refl
-
-pub begun_spec : {M : Type 1} → statement M
-begun_spec = tie.close (tie.spec returns)

@@ -13,60 +13,38 @@ use Rattle.response.specs.declared.Responses.{Responses}
 use Rattle.run.specs.Runs.{set_responses}
 use Rattle.run.specs.Steps.{with_row, finished, after_response}
 use Rattle.run.specs.RunLaws.{formed_of, formed_batch}
-use Rattle.run.proofs.Run.with_response.Statement.{statement}
-use Rattle.run.proofs.Run.with_response.Tie as tie
+use Rattle.run.proofs.Run.with_response.Goals as goal
 
-with-requires : tie.Need-with-requires
-with-requires c κs =
+pub with-responses-requires : goal.with-responses-requires
+with-responses-requires c =
     let start = c.before.before.before in
     let formed = formed_of start.args.self start.requires in
     omega arith
 
-cast-rows : tie.Need-overflow-cast-rows
-cast-rows c = search rules
-
-add-rows : tie.Need-overflow-add-rows
-add-rows c = search rules
-
-quorum-requires : tie.Need-quorum-requires
-quorum-requires c κs = search rules
-
-finish-requires : tie.Need-finish-requires
-finish-requires c κs =
+pub finish-requires : goal.finish-requires
+finish-requires c =
     let start = c.before.before.before.before.before.before.before in
     let formed = formed_of start.args.self start.requires in
     (bounds_test formed.bounds, formed_batch formed)
 
-returns : tie.Need-returns
+pub returns-then-rows-quorum : goal.returns-then-rows-quorum
 unfolding after_response with_row
-returns c =
+returns-then-rows-quorum c =
     let need = c.before.before in
     let taken = need.before.before in
-    let a = taken.before.before.before.before.args in
+    let a = taken.args in
     let r = a.self in
-    let done : eqb (r.responses.count + 1) (quorum r.setup.t r.setup.a) ≡ true = eq-eqb _ _ (c.before.if1.true ∙ need.quorum.ensures) in
-    c.finish.ensures ∙ ap (λ (p : Responses). finished (set_responses r 4 p)) taken.with.ensures
+    let done : eqb (r.responses.count + 1) (quorum r.setup.t r.setup.a) ≡ true = eq-eqb _ _ (c.if-rows-quorum.true ∙ need.quorum.ensures) in
+    c.finish.ensures ∙ ap (λ (p : Responses). finished (set_responses r 4 p)) taken.with-responses.ensures
     ∙ sym (ap (λ (b : Bool). pick b (finished (with_row r a.bytes.now)) (with_row r a.bytes.now)) done)
 
-returns-2 : tie.Need-returns-2
+pub returns : goal.returns
 unfolding after_response with_row
-returns-2 c =
+returns c =
     let need = c.before in
     let taken = need.before.before in
-    let a = taken.before.before.before.before.args in
+    let a = taken.args in
     let r = a.self in
-    let more : eqb (r.responses.count + 1) (quorum r.setup.t r.setup.a) ≡ false = ne_eqb _ _ (λ e. c.if1.false (e ∙ sym need.quorum.ensures)) in
-    ap (set_responses r 4) taken.with.ensures
+    let more : eqb (r.responses.count + 1) (quorum r.setup.t r.setup.a) ≡ false = ne_eqb _ _ (λ e. c.if-rows-quorum.false (e ∙ sym need.quorum.ensures)) in
+    ap (set_responses r 4) taken.with-responses.ensures
     ∙ sym (ap (λ (b : Bool). pick b (finished (with_row r a.bytes.now)) (with_row r a.bytes.now)) more)
-
-pub with_response_spec : {M : Type 1} → statement M
-with_response_spec =
-    tie.close
-    (tie.spec
-    with-requires
-    cast-rows
-    add-rows
-    quorum-requires
-    finish-requires
-    returns
-    returns-2)
