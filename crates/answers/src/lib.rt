@@ -1,5 +1,6 @@
 // What a run answers when it is asked: the sets HOLD, QUAL and BAD, and R(u,k) and φ(u,k), both shifted.
 #![tactic(auto)]
+
 ghost use Rattle.std.specs.Prelude.{◌≡◌};
 ghost use Rattle.answers.specs.Answers.{unblamed_of, sets_of, in_batch, nonce_of, phi_answer};
 

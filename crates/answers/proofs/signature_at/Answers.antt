@@ -1,4 +1,6 @@
 -- `signature_at` meets its contract: the number that is kept at the place of (u,k), which is among the kept ones. Assumes nothing.
+use mathlib.Core.Path.{ap}
+use mathlib.Core.Bool.{not}
 use borrow.Author.Rules.{rules}
 use borrow.Author.Tests.{leb-true, eq-eqb}
 use native.Mathlib.Omega.{arith}
@@ -16,7 +18,9 @@ use Rattle.run.specs.declared.Run.{Run}
 use Rattle.run.specs.Runs.{stage_of, kept}
 use Rattle.run.specs.RunLaws.{formed_of, formed_batch, stage_live}
 use Rattle.answers.specs.Answers.{in_batch, phi_answer}
-use Rattle.answers.proofs.signature_at.Statement.{statement}
+use Rattle.answers.proofs.signature_at.Goals as goal
+use Rattle.answers.proofs.signature_at.Lts as lts
+use Rattle.answers.proofs.signature_at.Reads as reads
 use Rattle.answers.proofs.signature_at.Tie as tie
 
 -- (u,k) of the batch of a run at stage 5: both are at least 1, and their place is among the kept ones
@@ -35,78 +39,44 @@ placed r u k e h =
     let in-slots : k - 1 < r.setup.a = omega arith in
     (u_pos, k_pos, omega (arith, digits_lt in-batch in-slots, cells_max formed.bounds (formed_batch formed), mul_comm r.setup.a r.b))
 
-stage-of-requires : tie.Need-stage-of-requires
-stage-of-requires c κs = search rules
-
-returns : tie.Need-returns
+pub returns-then-stage_of-ne5 : goal.returns-then-stage_of-ne5
 unfolding phi_answer
-returns c =
-    let early : eqb (stage_of c.before.before.args.run) 5 ≡ false = is_not c.before.stage_of_is.ensures c.if1.true in
+returns-then-stage_of-ne5 c =
+    let early : eqb (stage_of c.args.run) 5 ≡ false = is_not c.stage_of.ensures c.if-stage_of-ne5.true in
     rw early
 
 -- past the first test the run is at stage 5
-done : (c : tie.Else1) → stage_of c.before.before.args.run ≡ 5
-done c = sym c.before.stage_of_is.ensures ∙ c.if1.false
+done : (c : lts.Else1 tie.the-claims reads.Pre reads.Post) → stage_of c.args.run ≡ 5
+done c = sym c.stage_of.ensures ∙ c.if-stage_of-ne5.false
 
-in-batch-requires : tie.Need-in-batch-requires
-in-batch-requires c κs = search rules
-
-returns-2 : tie.Need-returns-2
+pub returns-then-not-in_batch : goal.returns-then-not-in_batch
 unfolding phi_answer
-returns-2 c = rw (eq-eqb _ _ (done c.before.before), fails c.before.in-batch.ensures c.if2.true)
+returns-then-not-in_batch c = rw (eq-eqb _ _ (done c.before.before), fails c.in_batch.ensures (ap not c.if-not-in_batch.true))
 
-here : (c : tie.Else2) → let a = c.before.before.before.before.args in
+here : (c : lts.Else2 tie.the-claims reads.Pre reads.Post) → let a = c.args in
     (1 ≤ a.u) × (1 ≤ a.k) × ((a.u - 1) * a.run.setup.a + (a.k - 1) < cells)
-here c = placed _ _ _ (done c.before.before) (holds c.before.in-batch.ensures c.if2.false)
+here c = placed _ _ _ (done c.before.before) (holds c.in_batch.ensures (ap not c.if-not-in_batch.false))
 
-sub_at : tie.Need-overflow-sub-at
-sub_at c = (here c).0
+pub overflow_sub-at : goal.overflow_sub-at
+overflow_sub-at c = (here c).0
 
-cast-at : tie.Need-overflow-cast-at
-cast-at c = search rules
+pub overflow_mul-at : goal.overflow_mul-at
+overflow_mul-at c = omega (arith, (here c.before).2)
 
-cast-at-2 : tie.Need-overflow-cast-at-2
-cast-at-2 c = search rules
+pub overflow_sub-at-2 : goal.overflow_sub-at-2
+overflow_sub-at-2 c = (here c.before).1
 
-mul_at : tie.Need-overflow-mul-at
-mul_at c = omega (arith, (here c.before).2)
+pub overflow_add-at : goal.overflow_add-at
+overflow_add-at c = omega (arith, (here c.before).2)
 
-sub-at-2 : tie.Need-overflow-sub-at-2
-sub-at-2 c = (here c.before).1
+pub offset_bounds-list-at : goal.offset_bounds-list-at
+offset_bounds-list-at c = omega (arith, (here c.before.before).2)
 
-cast-at-3 : tie.Need-overflow-cast-at-3
-cast-at-3 c = search rules
+pub bounds-list-at : goal.bounds-list-at
+bounds-list-at c = omega (arith, (here c.before.before).2)
 
-add_at : tie.Need-overflow-add-at
-add_at c = omega (arith, (here c.before).2)
-
-mul-t9 : tie.Need-overflow-mul-t9
-mul-t9 c = omega (arith, (here c.before.before).2)
-
-array-copy-out-t16 : tie.Need-array-copy-out-t16
-array-copy-out-t16 c = omega (arith, (here c.before.before).2)
-
-returns-3 : tie.Need-returns-3
+pub returns : goal.returns
 unfolding phi_answer kept cell
-returns-3 c =
+returns c =
     let e = c.before.before.before in
-    rw (eq-eqb _ _ (done e.before.before), holds e.before.in-batch.ensures e.if2.false) refl
-
-pub signature_at_spec : {M : Type 1} → statement M
-signature_at_spec =
-    tie.close
-    (tie.spec
-    stage-of-requires
-    returns
-    in-batch-requires
-    returns-2
-    sub_at
-    cast-at
-    cast-at-2
-    mul_at
-    sub-at-2
-    cast-at-3
-    add_at
-    mul-t9
-    array-copy-out-t16
-    returns-3)
+    rw (eq-eqb _ _ (done e.before.before), holds e.in_batch.ensures (ap not e.if-not-in_batch.false)) refl
