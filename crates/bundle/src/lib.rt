@@ -1,5 +1,6 @@
 // A bundle of response rows (a sheaf, in document 02), given to a run in one call.
 #![tactic(auto)]
+
 ghost use Rattle.std.specs.Prelude.{◌≡◌, ◌≤◌, length};
 ghost use Rattle.run.specs.Runs.{stage_of};
 ghost use Rattle.run.specs.Steps.{untaken};

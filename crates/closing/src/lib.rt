@@ -1,5 +1,6 @@
 // What a page says of the run after its log: the sets, the signatures and the stage, into a buffer that the caller lends.
 #![tactic(auto)]
+
 ghost use Rattle.std.specs.Prelude.{◌≡◌, true, ◌+◌, ◌*◌, ◌-◌, ◌≤◌, ◌<◌, length};
 ghost use Rattle.parameters.specs.Definitions.{most_parties};
 ghost use Rattle.text.specs.Texts.{Wrote};

@@ -1,5 +1,6 @@
 // The writers of VE and RE, which a holder makes from a run: each record is written whole into a buffer that the caller lends, or refused with the buffer as it was.
 #![tactic(auto)]
+
 ghost use Rattle.std.specs.Prelude.{◌≡◌, true, not, ◌||◌, ◌+◌, ◌*◌, ◌≤◌, length, get_or, eqb};
 ghost use Rattle.std.proofs.lemmas.List.Edits.{sets};
 ghost use Rattle.lists.specs.Tests.{pick, all_to};

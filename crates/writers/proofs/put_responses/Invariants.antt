@@ -1,0 +1,39 @@
+-- `put_responses` meets its contract. The loop has put the response numbers passed. Assumes nothing.
+use mathlib.Core.Path.{◌≡◌, ap, ap₂, fun_ext, ◌∙◌}
+use mathlib.Core.Bool.{Bool, true}
+use mathlib.Core.List.{List}
+use Prim.Native.Nat.{ℕ, ◌+◌, ◌-◌, ◌≤◌, ◌<◌}
+use native.Mathlib.Omega.{arith}
+use borrow.Author.Rules.{rules}
+use lib.Seq.{sets}
+use Rattle.sets.specs.Masks.{has}
+use Rattle.field.specs.declared.Scalar.{Scalar}
+use Rattle.field.specs.Definitions.{scalar, plus, times}
+use Rattle.rows.specs.declared.Row.{Row}
+use Rattle.interpolation.specs.Definitions.{point, party, slot}
+use Rattle.interpolation.specs.PointLaws.{party_is}
+use Rattle.rows.specs.Definitions.{listed, weights_of, sum_of}
+use Rattle.encoding.specs.Bytes.{fours}
+use Rattle.encoding.specs.StoreLaws.{Put, put_none, put_next}
+use Rattle.protocol.specs.Transcript.{challenge_at}
+use Rattle.arrays.specs.Arrays.{challenge_in, scalars}
+use Rattle.arrays.specs.ArrayLaws.{scalars_interpolated}
+use Rattle.verification.specs.Definitions.{transcript}
+use Rattle.run.specs.declared.Run.{Run}
+use Rattle.run.specs.Runs.{well_formed, transcript_of}
+use Rattle.run.specs.RunLaws.{formed_of}
+use Rattle.answers.specs.Answers.{unblamed_of}
+use Rattle.writers.specs.Writers.{combined_share, response_for}
+use Rattle.writers.specs.WriterLaws.{qual_is}
+use Rattle.writers.proofs.put_responses.Given as goal
+
+-- the response number for u, as the code works it out
+abbrev pub number : ℕ → ℕ → ℕ → List Scalar → Row → ℕ → List ℕ → ℕ → Scalar
+number n a qual challenges weights key shares u =
+    plus (combined_share n (has qual) shares u) (times (sum_of weights (scalars a (λ v. challenge_in a challenges u (v + 1)))) (scalar key))
+
+abbrev pub invariant-loop-u : goal.invariant-loop-u
+invariant-loop-u l = (l.u ≤ l.count) × (l.count < 256) × Put l.initial.out 4 (λ k. (number l.n l.a l.qual l.challenges l.weights l.key l.shares (k + 1)).0) l.u l.out
+
+abbrev pub decreases-loop-u : goal.decreases-loop-u
+decreases-loop-u l = l.count - l.u

@@ -1,0 +1,53 @@
+-- `wrong_dealers` meets its contract. The loop's mask is the set of the wrong dealers passed. Assumes nothing.
+use mathlib.Core.Path.{◌≡◌, refl, sym, ◌∙◌}
+use mathlib.Core.Bool.{Bool, ◌&&◌}
+use mathlib.Core.List.{List}
+use mathlib.Core.Logic.{⊎_elim}
+use Prim.Native.Nat.{ℕ, ◌+◌, ◌-◌, ◌≤◌, ◌<◌}
+use native.Mathlib.Omega.{arith}
+use borrow.Author.Rules.{rules}
+use lib.ListN.{get_or}
+use Rattle.lists.specs.Tests.{pick}
+use Rattle.sets.specs.Masks.{has, insert, mask_of}
+use Rattle.sets.specs.MaskLaws.{mask_of_insert}
+use Rattle.dealing.specs.Definitions.{may_blame}
+use Rattle.writers.proofs.wrong_dealers.Invariants.{wrong}
+use Rattle.writers.proofs.wrong_dealers.Goals as goal
+use Rattle.writers.proofs.wrong_dealers.Goals.{then-has+then-has-2, then-has+else-has-2, else-has}
+
+-- one dealer more
+next : (dealers : ℕ) (list : List ℕ) (j i : ℕ) → i < 64
+    → mask_of (i + 1) (wrong dealers list j)
+    ≡ pick (has dealers (i + 1) && has (get_or list i 0) j) (insert (mask_of i (wrong dealers list j)) (i + 1)) (mask_of i (wrong dealers list j))
+next dealers list j i l =
+    let last : i + 1 - 1 ≡ i = omega arith in
+    mask_of_insert i (wrong dealers list j) l ∙ rw last
+
+pub loop-i-init : goal.loop-i-init
+unfolding mask_of
+loop-i-init c = (omega arith, refl)
+
+pub loop-i-preserved : goal.loop-i-preserved
+loop-i-preserved c =
+    let l = c.loop-i in
+    let a = c.args in
+    let dealt : c.has.result ≡ has a.run.dealings.dealers (l.i + 1) = c.has.ensures in
+    let more = next a.run.dealings.dealers a.run.dealings.wrong a.j l.i (omega arith) in (
+      omega arith,
+      elim c.if-has.branch [
+        | then-has+then-has-2 w ↦
+            let wrong : w.has-then-has.result ≡ has (get_or a.run.dealings.wrong l.i 0) a.j = w.has-then-has.ensures in
+            w.mask-is ∙ w.insert-mask.ensures ∙ rw l.invariant.1 (sym (rw (sym dealt ∙ w.if-has.true, sym wrong ∙ w.if-has-2.true) at more))
+        | then-has+else-has-2 w ↦
+            w.mask-is ∙ l.invariant.1 ∙ sym (rw (sym dealt ∙ w.if-has.true, sym w.has-then-has.ensures ∙ w.if-has-2.false) at more)
+        | else-has w ↦
+            w.mask-is ∙ l.invariant.1 ∙ sym (rw (sym dealt ∙ w.if-has.false) at more)
+      ],
+    )
+
+pub returns : goal.returns
+unfolding may_blame
+returns c =
+    let l = c.loop-i in
+    let end : l.i ≡ c.args.run.setup.n = omega arith in
+    rw end at l.invariant.1

@@ -1,0 +1,24 @@
+-- `wrong_dealers` meets its contract. The loop's mask is the set of the wrong dealers passed. Assumes nothing.
+use mathlib.Core.Path.{◌≡◌, refl, sym, ◌∙◌}
+use mathlib.Core.Bool.{Bool, ◌&&◌}
+use mathlib.Core.List.{List}
+use mathlib.Core.Logic.{⊎_elim}
+use Prim.Native.Nat.{ℕ, ◌+◌, ◌-◌, ◌≤◌, ◌<◌}
+use native.Mathlib.Omega.{arith}
+use borrow.Author.Rules.{rules}
+use lib.ListN.{get_or}
+use Rattle.lists.specs.Tests.{pick}
+use Rattle.sets.specs.Masks.{has, insert, mask_of}
+use Rattle.sets.specs.MaskLaws.{mask_of_insert}
+use Rattle.dealing.specs.Definitions.{may_blame}
+use Rattle.writers.proofs.wrong_dealers.Given as goal
+
+-- dealer i has a dealing, whose share for j is not valid
+abbrev pub wrong : ℕ → List ℕ → ℕ → ℕ → Bool
+wrong dealers list j i = has dealers i && has (get_or list (i - 1) 0) j
+
+abbrev pub invariant-loop-i : goal.invariant-loop-i
+invariant-loop-i l = (l.i ≤ l.n) × (l.mask ≡ mask_of l.i (wrong l.dealers l.list l.j))
+
+abbrev pub decreases-loop-i : goal.decreases-loop-i
+decreases-loop-i l = l.n - l.i
