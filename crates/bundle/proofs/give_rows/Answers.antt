@@ -27,10 +27,10 @@ use Rattle.bundle.specs.CutLaws.{left_is, cut, row_length, row_is}
 use Rattle.bundle.specs.RowLaws.{stage_batch, Kept, kept_response, passes_at, same_test, only_row, row_taken, row_refused}
 use Rattle.bundle.proofs.Taking.{Taking, taking_start, taking_next, taking_run, taking_numbers}
 use Rattle.bundle.proofs.give_rows.Goals as goal
-use Rattle.bundle.proofs.give_rows.Goals.{then-rest-length, else-rest-length, then-ready-b+then-test_row, then-ready-b+else-test_row, else-ready-b}
 use Rattle.bundle.proofs.give_rows.Lts as lts
 use Rattle.bundle.proofs.give_rows.Reads as reads
 use Rattle.bundle.proofs.give_rows.Tie as tie
+use Rattle.bundle.proofs.give_rows.Goals.{then-rest-length, else-rest-length, then-ready-b+then-test_row, then-ready-b+else-test_row, else-ready-b, then-number-eq0+then-test_row-2, then-number-eq0+else-test_row-2, else-number-eq0}
 
 -- ---- what is known before the rows
 
@@ -84,11 +84,11 @@ lent j =
     ap₂ (λ (n : ℕ) (t : List ℕ). take n t) (measured j) (left_is s l.loop-x.from) ∙ row_is (sized l.before.before).response_length-length.result (drop l.loop-x.from s)
 
 asked : (u : lts.After-row_refusal tie.the-claims reads.Pre reads.Post goal.the-invariant-loop-x goal.the-decreases-loop-x) →
-    let l = u.before.before.before.before.before in
+    let l = u.before.before.before.before in
     u.row_refusal-number.result ≡ untaken l.loop-x.next (row_at l)
 asked u =
-    let l = u.before.before.before.before.before in
-    u.row_refusal-number.ensures ∙ ap (untaken l.loop-x.next) (lent u.before.before)
+    let l = u.before.before.before.before in
+    u.row_refusal-number.ensures ∙ ap (untaken l.loop-x.next) (lent u.before)
 
 -- ---- the test
 
@@ -105,33 +105,33 @@ readyValues l k =
 
 -- the row as it is lent, tested as it is cut
 as_cut : (h : lts.After-holder_of tie.the-claims reads.Pre reads.Post goal.the-invariant-loop-x goal.the-decreases-loop-x) (k : ℕ) →
-    let j = h.before.before.before.before in
+    let j = h.before.before.before in
     let l = j.before.before.before in
-    let s = (start l.before).args.bytes.now in
-    let r = (start l.before).args.run in
+    let s = (start l.before.before).args.bytes.now in
+    let r = (start l.before.before).args.run in
     row_passes k r.setup r.dealings r.complaints r.challenges (take j.if-rest-length.size (take (length s - l.loop-x.from) (drop l.loop-x.from s))) ≡ readyPasses l k
 as_cut h k =
-    let j = h.before.before.before.before in
+    let j = h.before.before.before in
     let l = j.before.before.before in
     let r = (start l.before.before).args.run in
     ap (λ (t : List ℕ). row_passes k r.setup r.dealings r.complaints r.challenges t) (lent j)
 
-first_tested : (t : lts.After-test_row tie.the-claims reads.Pre reads.Post goal.the-invariant-loop-x goal.the-decreases-loop-x) → let l = t.before.before.before.before.before.before.before.before.before in
+first_tested : (t : lts.After-test_row tie.the-claims reads.Pre reads.Post goal.the-invariant-loop-x goal.the-decreases-loop-x) → let l = t.before.before.before.before.before.before.before.before in
     t.test_row.result ≡ readyPasses l l.loop-x.ready
 unfolding all_to
 first_tested t =
     let h = t.before.before in
-    let l = h.before.before.before.before.before.before.before in
+    let l = h.before.before.before.before.before.before in
     let r = (start l.before.before).args.run in
     t.test_row.ensures r.dealings r.complaints r.challenges refl l.loop-x.invariant.3 refl ∙ as_cut h l.loop-x.ready
 
 -- the values are ready for every u, or the row fails by those that are
-extended : (e : lts.Joined3 tie.the-claims reads.Pre reads.Post goal.the-invariant-loop-x goal.the-decreases-loop-x) → let l = e.before.before.before.before.before.before.before.before in
-    let r = (start l.before).args.run in
+extended : (e : lts.Joined3 tie.the-claims reads.Pre reads.Post goal.the-invariant-loop-x goal.the-decreases-loop-x) → let l = e.before.before.before.before.before.before.before in
+    let r = (start l.before.before).args.run in
     (e.if-ready-b.ready ≤ r.b) × (e.if-ready-b.values ≡ readyValues l e.if-ready-b.ready) × ((e.if-ready-b.ready ≡ r.b) ⊎ (readyPasses l e.if-ready-b.ready ≡ false))
 extended e =
     let h = e.before in
-    let l = h.before.before.before.before.before.before.before in
+    let l = h.before.before.before.before.before.before in
     let known = l.loop-x.invariant in
     elim e.if-ready-b.branch [
       | then-ready-b+then-test_row w ↦
@@ -139,19 +139,19 @@ extended e =
       | then-ready-b+else-test_row w ↦ (
         omega (arith, w.ready-is, known.2),
         w.values-is ∙ known.3 ∙ ap (readyValues l) (sym w.ready-is),
-        inr (ap (readyPasses l) w.ready-is ∙ sym (first_tested (record { before = record { before = h; if-ready-b = w.if-ready-b }; test_row = w.FIELD1 })) ∙ w.if-test_row.false),
+        inr (ap (readyPasses l) w.ready-is ∙ sym (first_tested (record { before = record { before = h; if-ready-b = w.if-ready-b }; test_row = w.test_row })) ∙ w.if-test_row.false),
       )
       | else-ready-b w ↦
           (omega (arith, w.ready-is, known.2), w.values-is ∙ known.3 ∙ ap (readyValues l) (sym w.ready-is), inl (omega (arith, w.if-ready-b.false, w.ready-is, known.2)))
     ]
 
-tested : (t : lts.After-test_row2 tie.the-claims reads.Pre reads.Post goal.the-invariant-loop-x goal.the-decreases-loop-x) → let l = t.before.before.before.before.before.before.before.before.before in
+tested : (t : lts.After-test_row2 tie.the-claims reads.Pre reads.Post goal.the-invariant-loop-x goal.the-decreases-loop-x) → let l = t.before.before.before.before.before.before.before.before in
     t.test_row-then-number-eq0.result ≡ passes_at l.loop-x.next (row_at l)
 unfolding all_to
 tested t =
     let e = t.before in
     let h = e.before in
-    let l = h.before.before.before.before.before.before.before in
+    let l = h.before.before.before.before.before.before in
     let r = (start l.before.before).args.run in
     let more = extended e in
     let ready = e.if-ready-b.ready in
@@ -164,41 +164,40 @@ tested t =
 
 -- where the three ways meet, number and run are those of the step
 answered_row : (k : lts.Joined2 tie.the-claims reads.Pre reads.Post goal.the-invariant-loop-x goal.the-decreases-loop-x) →
-    let l = k.before.before.before.before.before.before in
-    let r = (start l.before).args.run in
+    let l = k.before.before.before.before.before in
+    let r = (start l.before.before).args.run in
     (step_of l.loop-x.next (row_at l) ≡ record { run = k.if-number-eq0.next; number = k.if-number-eq0.number })
     × Kept r k.if-number-eq0.next × (k.if-number-eq0.ready ≤ r.b) × (k.if-number-eq0.values ≡ readyValues l k.if-number-eq0.ready)
 answered_row k =
     let u = k.before in
-    let l = u.before.before.before.before.before in
+    let l = u.before.before.before.before in
     let r = l.loop-x.next in
     let kept = l.loop-x.invariant.1.kept in
-    ⊎_elim
-    (λ w.
-    let e : lts.Joined3 tie.the-claims reads.Pre reads.Post goal.the-invariant-loop-x goal.the-decreases-loop-x = record { before = record { before = record { before = u; if-number-eq0 = w.0 }; holder_of-holder = w.1 }; if-ready-b = w.2 } in
-    let none = sym (asked u) ∙ w.0.true in
-    let next : k.if-number-eq0.next ≡ after_response r (row_at l) = w.8 ∙ w.5.ensures ∙ ap (after_response r) (lent u.before.before) in (
-      row_taken r (row_at l) kept.late none (sym (tested (record { before = e; test_row-then-number-eq0 = w.3 })) ∙ w.4.true) ∙ reply (sym next) (sym (w.9 ∙ w.0.true)),
-      subst⁻¹ (Kept _) next (kept_response kept (row_at l)),
-      omega (arith, w.6, (extended e).0),
-      w.7 ∙ (extended e).1 ∙ ap (readyValues l) (sym w.6),
-    ))
-    (⊎_elim
-    (λ w.
-    let e : lts.Joined3 tie.the-claims reads.Pre reads.Post goal.the-invariant-loop-x goal.the-decreases-loop-x = record { before = record { before = record { before = u; if-number-eq0 = w.0 }; holder_of-holder = w.1 }; if-ready-b = w.2 } in
-    let none = sym (asked u) ∙ w.0.true in (
-      row_refused r (row_at l) kept.late none (sym (tested (record { before = e; test_row-then-number-eq0 = w.3 })) ∙ w.4.left) ∙ reply (sym w.7) (sym w.8),
-      subst⁻¹ (Kept _) w.7 kept,
-      omega (arith, w.5, (extended e).0),
-      w.6 ∙ (extended e).1 ∙ ap (readyValues l) (sym w.5),
-    ))
-    (λ w. (
-      untaken_refused r (row_at l) (λ e. w.0.left (asked u ∙ e)) ∙ reply (sym w.3) (sym (w.4 ∙ asked u)),
-      subst⁻¹ (Kept _) w.3 kept,
-      omega (arith, w.1, l.loop-x.invariant.2),
-      w.2 ∙ l.loop-x.invariant.3 ∙ ap (readyValues l) (sym w.1),
-    )))
-    k.if-number-eq0.branch
+    elim k.if-number-eq0.branch [
+      | then-number-eq0+then-test_row-2 w ↦
+          let e : lts.Joined3 tie.the-claims reads.Pre reads.Post goal.the-invariant-loop-x goal.the-decreases-loop-x = record { before = record { before = record { before = u; if-number-eq0 = w.if-number-eq0 }; holder_of-holder = w.holder_of-holder }; if-ready-b = w.if-ready-b } in
+          let none = sym (asked u) ∙ w.if-number-eq0.true in
+          let next : k.if-number-eq0.next ≡ after_response r (row_at l) = w.next-is ∙ w.with_response-taken.ensures ∙ ap (after_response r) (lent u.before) in (
+            row_taken r (row_at l) kept.late none (sym (tested (record { before = e; test_row-then-number-eq0 = w.test_row-then-number-eq0 })) ∙ w.if-test_row-2.true) ∙ reply (sym next) (sym (w.number-is ∙ w.if-number-eq0.true)),
+            subst⁻¹ (Kept _) next (kept_response kept (row_at l)),
+            omega (arith, w.ready-is, (extended e).0),
+            w.values-is ∙ (extended e).1 ∙ ap (readyValues l) (sym w.ready-is),
+          )
+      | then-number-eq0+else-test_row-2 w ↦
+          let e : lts.Joined3 tie.the-claims reads.Pre reads.Post goal.the-invariant-loop-x goal.the-decreases-loop-x = record { before = record { before = record { before = u; if-number-eq0 = w.if-number-eq0 }; holder_of-holder = w.holder_of-holder }; if-ready-b = w.if-ready-b } in
+          let none = sym (asked u) ∙ w.if-number-eq0.true in (
+            row_refused r (row_at l) kept.late none (sym (tested (record { before = e; test_row-then-number-eq0 = w.test_row-then-number-eq0 })) ∙ w.if-test_row-2.false) ∙ reply (sym w.next-is) (sym w.number-is),
+            subst⁻¹ (Kept _) w.next-is kept,
+            omega (arith, w.ready-is, (extended e).0),
+            w.values-is ∙ (extended e).1 ∙ ap (readyValues l) (sym w.ready-is),
+          )
+      | else-number-eq0 w ↦ (
+        untaken_refused r (row_at l) (λ e. w.if-number-eq0.false (asked u ∙ e)) ∙ reply (sym w.next-is) (sym (w.number-is ∙ asked u)),
+        subst⁻¹ (Kept _) w.next-is kept,
+        omega (arith, w.ready-is, l.loop-x.invariant.2),
+        w.values-is ∙ l.loop-x.invariant.3 ∙ ap (readyValues l) (sym w.ready-is),
+      )
+    ]
   where
     reply : {y z : Run} {m n : ℕ} → y ≡ z → m ≡ n → ◌≡◌ {A = Reply} (record { run = y; number = m }) (record { run = z; number = n })
     reply e f = ap₂ (λ (x : Run) (i : ℕ). record { run = x; number = i }) e f
@@ -239,26 +238,26 @@ pub holder_of-holder-requires : goal.holder_of-holder-requires
 holder_of-holder-requires c = bounds_test (formed c.before.before.before.before.before.before.before.before).bounds
 
 -- what the test asks
-testable : (h : lts.After-holder_of tie.the-claims reads.Pre reads.Post goal.the-invariant-loop-x goal.the-decreases-loop-x) {k : ℕ} → let n = h.before.before.before.before.before.before.before.before.before in
+testable : (h : lts.After-holder_of tie.the-claims reads.Pre reads.Post goal.the-invariant-loop-x goal.the-decreases-loop-x) {k : ℕ} → let n = h.before.before.before.before.before.before.before.before in
     let r = (start n).args.run in
     k ≤ r.b → (in_bounds r.setup.n r.setup.t r.setup.a ≡ true) × (k ≤ r.setup.n)
 testable h l =
-    let f = formed h.before.before.before.before.before.before.before.before.before in
+    let f = formed h.before.before.before.before.before.before.before.before in
     (bounds_test f.bounds, omega (arith, formed_batch f, l))
 
 pub test_row-requires : goal.test_row-requires
 test_row-requires c =
     let h = c.before in
     let l = h.before.before.before.before.before.before.before in
-    let asked = testable h l.loop-x.invariant.2 in
+    let asked = testable h.before l.loop-x.invariant.2 in
     (asked.0, omega arith, asked.1, h.holder_of-holder.ensures)
 
 pub qual_values-all-requires : goal.qual_values-all-requires
-qual_values-all-requires c = testable c.before.before.before (omega arith)
+qual_values-all-requires c = testable c.before.before.before.before (omega arith)
 
 pub test_row-requires-then-number-eq0 : goal.test_row-requires-then-number-eq0
 test_row-requires-then-number-eq0 c =
-    let asked = testable c.before (extended c).0 in
+    let asked = testable c.before.before (extended c.before).0 in
     (asked.0, omega arith, asked.1, c.holder_of-holder.ensures)
 
 pub with_response-taken-requires : goal.with_response-taken-requires
@@ -266,7 +265,7 @@ with_response-taken-requires c =
     let t = c.before.before.before.before in
     let u = t.before in
     let l = u.before.before.before.before.before in
-    (stage_live l.loop-x.next 4 (only_row l.loop-x.next _ l.loop-x.invariant.1.kept.late (sym (asked u) ∙ t.if-number-eq0.true)).0 (omega arith) (omega arith)).1
+    (stage_live l.loop-x.next 4 (only_row l.loop-x.next _ l.loop-x.invariant.1.kept.late (sym (asked u.before) ∙ t.if-number-eq0.true)).0 (omega arith) (omega arith)).1
 
 pub bounds-numbers-x : goal.bounds-numbers-x
 bounds-numbers-x c =
@@ -286,7 +285,7 @@ loop-x-preserved c =
     let j = k.before.before.before in
     let i = j.before.before in
     let l = i.before in
-    let now = answered_row k in (
+    let now = answered_row k.before in (
       omega (arith, i.loop-x-test.true),
       taking_next (some_bytes (sized l.before.before)) l.loop-x.invariant.1 i.loop-x-test.true (measured j) now.0 now.1 refl,
       now.2,

@@ -57,7 +57,7 @@ pub returns-then-count-bytes : goal.returns-then-count-bytes
 returns-then-count-bytes c =
     let m = c.before.before in
     let a = m.args in
-    left_as c.answer-then-count-bytes.ensures a.numbers.now ∙ sym (bundle_places a.run a.bytes.now a.numbers.now (at_four m.before.before) (λ e. c.if-count-bytes.true (e ∙ counted m)))
+    left_as c.answer-then-count-bytes.ensures a.numbers.now ∙ sym (bundle_places a.run a.bytes.now a.numbers.now (at_four m.before.before) (λ e. c.if-count-bytes.true (e ∙ counted m.before)))
 
 -- one place a row
 placed : (c : lts.Else2 tie.the-claims reads.Pre reads.Post) →
@@ -69,7 +69,7 @@ pub give_rows-requires : goal.give_rows-requires
 give_rows-requires c = (at_four c.before.before.before.before, placed c.before.before)
 
 pub shape_of-numbers : goal.shape_of-numbers
-shape_of-numbers c = c.give_rows.auto.1.1.0
+shape_of-numbers c = c.give_rows.auto.numbers
 
 pub returns : goal.returns
 returns c =
@@ -77,6 +77,6 @@ returns c =
     let e = g.before.before in
     let m = e.before in
     let a = m.args in
-    left_as c.answer-2.ensures g.give_rows.new.1.1.0
+    left_as c.answer-2.ensures g.give_rows.new.numbers
     ∙ g.give_rows.ensures
-    ∙ sym (bundle_given a.run a.bytes.now a.numbers.now (at_four m.before) (placed e))
+    ∙ sym (bundle_given a.run a.bytes.now a.numbers.now (at_four m.before.before) (placed e.before))
