@@ -1,0 +1,28 @@
+-- `rows_length` meets its contract. Assumes nothing.
+use borrow.Author.Rules.{rules}
+use native.Mathlib.Nat.{mul-le-mul}
+use native.Mathlib.Omega.{arith}
+use mathlib.Core.Path.{◌≡◌, ap}
+use Prim.Native.Nat.{ℕ, ◌*◌, ◌≤◌}
+use Rattle.records.specs.Tags.{response_length}
+use Rattle.reader.proofs.rows_length.Goals as goal
+
+pub overflow_mul-whole : goal.overflow_mul-whole
+unfolding response_length
+overflow_mul-whole c =
+    let a = c.args in
+    let row : c.response_length.result ≤ 1024 = omega (arith, c.response_length.ensures) in
+    let most : a.rows * c.response_length.result ≤ 256 * 1024 = mul-le-mul c.requires row in
+    omega arith
+
+pub returns-then-left-whole : goal.returns-then-left-whole
+returns-then-left-whole c =
+    let a = c.args in
+    let whole : a.rows * c.response_length.result ≡ a.rows * response_length a.b = ap (λ (k : ℕ). a.rows * k) c.response_length.ensures in
+    omega (arith, c.if-left-whole.true)
+
+pub returns-else-left-whole : goal.returns-else-left-whole
+returns-else-left-whole c =
+    let a = c.args in
+    let whole : a.rows * c.response_length.result ≡ a.rows * response_length a.b = ap (λ (k : ℕ). a.rows * k) c.response_length.ensures in
+    omega (arith, c.if-left-whole.false)
