@@ -1,5 +1,6 @@
 // The sets alone: a log read up to the record that fixes them, how many bytes that takes, and the short page.
 #![tactic(auto)]
+
 ghost use Rattle.std.specs.Prelude.{◌≡◌, ◌≤◌, length};
 ghost use Rattle.std.proofs.lemmas.List.Edits.{sets};
 ghost use Rattle.text.specs.Texts.{Wrote};
