@@ -1,53 +1,54 @@
 // Reads a log and bundles of response rows on standard input. Gives each bundle to the run that the log leaves, in one call, and prints the call's number
 // and the lent list in hex; last what the run has come to. docs/FORMATS.md says what the input is.
 #![tactic(auto)]
+
 ghost use Rattle.std.specs.Prelude.{◌≤◌, length};
 
 use answers::Signature;
-use libc::{STDERR_FILENO, STDIN_FILENO, STDOUT_FILENO};
 use run::Run;
+use std::io::Print;
 use streams::{COUNT, NUMBER};
 
 // The bytes before the rows of a bundle: the places of its list, and how many bytes the rows have.
 const FIELDS: usize = COUNT + NUMBER;
 
 // Gives a bundle to a run and prints the answer.
-fn serve(run: Run, rows: &[u8], list: &mut [u8]) -> Run {
+fn serve(rt: &impl Print, run: Run, rows: &[u8], list: &mut [u8]) -> Run {
     streams::fill(list);
     let reply = bundle::take_rows(run, rows, list);
-    streams::answer(reply.number, list);
+    streams::answer(rt, reply.number, list);
     reply.run
 }
 
 // φ(u,k), where the run has it.
-fn print_signature(run: Run, u: u8, k: u8) {
+fn print_signature(rt: &impl Print, run: Run, u: u8, k: u8) {
     let signature = answers::signature_at(run, u, k);
     match signature {
-        Signature::Is(phi) => console::print_number(phi.0 as u64),
+        Signature::Is(phi) => console::print_number(rt, phi.0 as u64),
         Signature::None => (),
     }
 }
 
 // Every φ(u,k) for a u.
-fn print_signatures(run: Run, u: u8) {
+fn print_signatures(rt: &impl Print, run: Run, u: u8) {
     let a = run.setup.a;
     for k in 0..a {
-        print_signature(run, u, k + 1);
+        print_signature(rt, run, u, k + 1);
     }
 }
 
 // The stage, and every φ(u,k), u outer.
-fn print_run(run: Run) {
-    replies::print_stage(run);
+fn print_run(rt: &impl Print, run: Run) {
+    replies::print_stage(rt, run);
     let b = run.b;
     for u in 0..b {
-        print_signatures(run, u + 1);
+        print_signatures(rt, run, u + 1);
     }
-    console::end_line();
+    console::end_line(rt);
 }
 
 // Gives the bundles of an input to a run, one after the other.
-fn serve_all(start: Run, s: &[u8], list: &mut [u8])
+fn serve_all(rt: &impl Print, start: Run, s: &[u8], list: &mut [u8])
     requires { 65535 ≤ length list.old }
 {
     let mut run = start;
@@ -56,33 +57,33 @@ fn serve_all(start: Run, s: &[u8], list: &mut [u8])
         let rest = &s[at..];
         let left = rest.len();
         if left < FIELDS {
-            streams::answer_broken();
+            streams::answer_broken(rt);
             return;
         }
         let places = streams::two(rest, 0);
         let size = streams::four(rest, COUNT) as usize;
         if left - FIELDS < size {
-            streams::answer_broken();
+            streams::answer_broken(rt);
             return;
         }
         let end = FIELDS + size;
-        run = serve(run, &rest[FIELDS..end], &mut list[..places]);
+        run = serve(rt, run, &rest[FIELDS..end], &mut list[..places]);
         at += end;
     }
-    print_run(run);
+    print_run(rt, run);
 }
 
 // Answers an input: the length of the log, the log, and the bundles.
-fn serve_input(s: &[u8], list: &mut [u8])
+fn serve_input(rt: &impl Print, s: &[u8], list: &mut [u8])
     requires { 65535 ≤ length list.old }
 {
     let end = streams::log_end(s);
     if end < NUMBER {
-        streams::answer_broken();
+        streams::answer_broken(rt);
         return;
     }
     let run = streams::run_of(&s[NUMBER..end]);
-    serve_all(run, &s[end..], list);
+    serve_all(rt, run, &s[end..], list);
 }
 
 // The most bytes of an input.
@@ -91,18 +92,19 @@ const INPUT: usize = 262144;
 // As many places as two bytes can say.
 const LIST: usize = 65535;
 
-fn main() {
+fn main(rt: HostRuntime) {
+    let mut stdin = rt.stdin();
     // One byte more than an input may have, so that one which is too long is seen.
     let mut input = [0u8; INPUT + 1];
-    let got = io::read_full(STDIN_FILENO, &mut input);
+    let got = console::read_full(&mut stdin, &mut input);
     if INPUT < got {
-        io::write_all(STDOUT_FILENO, b"long\n");
+        console::print_bytes(&rt, b"long\n");
         return;
     }
-    if !console::input_ended() {
-        io::write_all(STDERR_FILENO, b"collector: the bundles could not be read\n");
+    if !console::input_ended(&mut stdin) {
+        console::say(&rt.stderr(), b"collector", b"the bundles could not be read");
         return;
     }
     let mut list = [0u8; LIST];
-    serve_input(&input[..got], &mut list);
+    serve_input(&rt, &input[..got], &mut list);
 }

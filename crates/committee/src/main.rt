@@ -1,10 +1,12 @@
 // Makes a complete log with the writers and gives it to a run: a committee of 6 with threshold 1 and packing 2, in which dealer 4 sends a wrong
 // share to holder 1 and is blamed. Prints each reply, the sets as masks and the stage, then every R and φ.
 #![tactic(auto)]
+
 use console::{end_line, print_number};
 use field::Scalar;
 use replies::give;
 use run::Run;
+use std::io::Print;
 
 // n, t and a.
 const PARTIES: u8 = 6;
@@ -65,19 +67,19 @@ fn dealt_share(i: u8, j: u8) -> u32 {
 // The length of the record SU; DEALING, COMPLAINT and RESPONSE are those of the others.
 const SETUP: usize = 14;
 
-fn set_up(run: Run) -> Run {
+fn set_up(rt: &impl Print, run: Run) -> Run {
     let shares: [u32; 1] = [FIRST_SHARE];
     let mut out = [0u8; SETUP];
     if dealer::write_setup(PARTIES, THRESHOLD, PACKING, SECRET, &shares, &mut out) != 0 {
         return run;
     }
-    give(run, &out)
+    give(rt, run, &out)
 }
 
 const DEALING: usize = 44;
 
-fn give_dealing(run: Run, bytes: &[u8; DEALING]) -> Run {
-    give(run, bytes)
+fn give_dealing(rt: &impl Print, run: Run, bytes: &[u8; DEALING]) -> Run {
+    give(rt, run, bytes)
 }
 
 // The dealer of a wrong share, and the last byte of the share for holder 1.
@@ -85,7 +87,7 @@ const WRONG_DEALER: u8 = 4;
 
 const WRONG_BYTE: usize = 23;
 
-fn deal(run: Run, i: u8) -> Run {
+fn deal(rt: &impl Print, run: Run, i: u8) -> Run {
     let values: [u32; 4] = [
         dealt_value(i, 0),
         dealt_value(i, 1),
@@ -99,23 +101,23 @@ fn deal(run: Run, i: u8) -> Run {
     if i == WRONG_DEALER {
         out[WRONG_BYTE] = out[WRONG_BYTE] ^ 1;
     }
-    give_dealing(run, &out)
+    give_dealing(rt, run, &out)
 }
 
 const COMPLAINT: usize = 8;
 
-fn complain(run: Run, j: u8) -> Run {
+fn complain(rt: &impl Print, run: Run, j: u8) -> Run {
     let mut out = [0u8; COMPLAINT];
     if writers::write_complaint(run, j, &mut out) != 0 {
         return run;
     }
-    give(run, &out)
+    give(rt, run, &out)
 }
 
 const RESPONSE: usize = 20;
 
 // The shares of dealers outside QUAL are not read: they are no scalars here.
-fn respond(run: Run, j: u8) -> Run {
+fn respond(rt: &impl Print, run: Run, j: u8) -> Run {
     let shares: [u32; 6] = [
         u32::MAX,
         dealt_share(2, j),
@@ -128,60 +130,61 @@ fn respond(run: Run, j: u8) -> Run {
     if writers::write_response(run, j, key_share(j), &shares, &mut out) != 0 {
         return run;
     }
-    give(run, &out)
+    give(rt, run, &out)
 }
 
 // Dealers 2 to 6.
-fn deal_all(begun: Run) -> Run {
+fn deal_all(rt: &impl Print, begun: Run) -> Run {
     let mut run = begun;
     for i in 2..7 {
-        run = deal(run, i);
+        run = deal(rt, run, i);
     }
     run
 }
 
-fn complain_all(dealt: Run) -> Run {
+fn complain_all(rt: &impl Print, dealt: Run) -> Run {
     let mut run = dealt;
     let holders: [u8; 5] = [1, 2, 3, 5, 6];
     for h in 0..5 {
-        run = complain(run, holders[h]);
+        run = complain(rt, run, holders[h]);
     }
     run
 }
 
-fn respond_all(challenged: Run) -> Run {
+fn respond_all(rt: &impl Print, challenged: Run) -> Run {
     let mut run = challenged;
     let responders: [u8; 4] = [6, 1, 3, 5];
     for h in 0..4 {
-        run = respond(run, responders[h]);
+        run = respond(rt, run, responders[h]);
     }
     run
 }
 
-fn say(run: Run, u: u8, k: u8) {
-    print_number(u as u64);
-    print_number(k as u64);
-    replies::print_signature(run, u, k);
-    end_line();
+fn say(rt: &impl Print, run: Run, u: u8, k: u8) {
+    print_number(rt, u as u64);
+    print_number(rt, k as u64);
+    replies::print_signature(rt, run, u, k);
+    end_line(rt);
 }
 
-fn say_all(run: Run) {
+fn say_all(rt: &impl Print, run: Run) {
     for u in 1..5 {
-        say(run, u, 1);
-        say(run, u, 2);
+        say(rt, run, u, 1);
+        say(rt, run, u, 2);
     }
 }
 
-fn main() {
-    let held = complain_all(deal_all(set_up(Run::fresh())));
+fn main(rt: HostRuntime) {
+    let held = complain_all(&rt, deal_all(&rt, set_up(&rt, Run::fresh())));
     let challenged = give(
+        &rt,
         held,
         b"CH\x00\x00\x00\xa7\xd8\xe1\x00\xb7\x1b\x24\x01\x40o\x7f\x01O\xb1\xc2\x01\xd9\x06\x1d\x01\xe8H\x60\x02q\x9c\xbb\x02\x80\xde\xfe",
     );
-    let run = respond_all(challenged);
-    end_line();
-    replies::print_sets(run);
-    replies::print_stage(run);
-    end_line();
-    say_all(run);
+    let run = respond_all(&rt, challenged);
+    end_line(&rt);
+    replies::print_sets(&rt, run);
+    replies::print_stage(&rt, run);
+    end_line(&rt);
+    say_all(&rt, run);
 }

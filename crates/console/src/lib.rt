@@ -1,52 +1,75 @@
-// Standard input and output, as the programs use them.
+// Standard input, output and error, as the programs use them. What a write could not write is let go, but where a function says otherwise.
 #![tactic(auto)]
 
-use libc::{STDERR_FILENO, STDIN_FILENO, STDOUT_FILENO};
+ghost use Rattle.std.specs.Prelude.{◌≤◌, length, take};
+ghost use Rattle.std.specs.Io.KnownBytes.{Consumes};
 
-// Whether standard input has ended: one more read gives nothing, and does not fail.
-pub fn input_ended() -> bool {
+use std::io::{Print, Read};
+
+// Reads until the buffer is full, the input ends or a read fails, and returns how many bytes it put at the start of the buffer.
+pub fn read_full<R: Read>(input: &mut R, buf: &mut [u8]) -> usize
+    ensures in_bounds { result ≤ length buf.new }
+    ensures bytes { Consumes (R.remaining input.old) (R.remaining input.new) (take result buf.new) }
+{
+    let mut done: usize = 0;
+    while done < buf.len() {
+        match input.read(&mut buf[done..]) {
+            Ok(n) if 0 < n => done += n,
+            _ => return done,
+        }
+    }
+    done
+}
+
+// Whether the input has ended: one more read gives nothing, and does not fail.
+pub fn input_ended(input: &mut impl Read) -> bool {
     let mut more = [0u8; 1];
-    libc::read(STDIN_FILENO, &mut more) == 0
+    matches!(input.read(&mut more), Ok(0))
+}
+
+// Bytes as they are.
+pub fn print_bytes(rt: &impl Print, bytes: &[u8]) {
+    let _ = rt.write_all(bytes);
 }
 
 // A number and a space.
-pub fn print_number(x: u64) {
-    io::print_decimal(STDOUT_FILENO, x);
-    io::write_all(STDOUT_FILENO, b" ");
+pub fn print_number(rt: &impl Print, x: u64) {
+    let _ = print!(rt; "{x} ");
+}
+
+// A byte as two digits of base sixteen.
+pub fn print_hex(rt: &impl Print, byte: u8) {
+    let _ = print!(rt; "{byte:02x}");
 }
 
 // A word for whether a test is passed, and a space.
-pub fn print_test(passed: bool) {
+pub fn print_test(rt: &impl Print, passed: bool) {
     if passed {
-        io::write_all(STDOUT_FILENO, b"yes ");
+        print_bytes(rt, b"yes ");
     } else {
-        io::write_all(STDOUT_FILENO, b"no ");
+        print_bytes(rt, b"no ");
     }
 }
 
-pub fn end_line() {
-    io::write_all(STDOUT_FILENO, b"\n");
+pub fn end_line(rt: &impl Print) {
+    print_bytes(rt, b"\n");
 }
 
 // What a program could not do, on standard error, after its name.
-pub fn say(program: &[u8], what: &[u8]) {
-    io::write_all(STDERR_FILENO, program);
-    io::write_all(STDERR_FILENO, b": ");
-    io::write_all(STDERR_FILENO, what);
-    io::write_all(STDERR_FILENO, b"\n");
+pub fn say(error: &impl Print, program: &[u8], what: &[u8]) {
+    print_bytes(error, program);
+    print_bytes(error, b": ");
+    print_bytes(error, what);
+    print_bytes(error, b"\n");
 }
 
-// Writes the first size bytes of a program's page; there is no page of 0 bytes.
-pub fn write_page(program: &[u8], page: &[u8], size: usize) {
-    if size == 0 {
-        say(program, b"the page could not be made");
+// Writes the first size bytes of a program's page; there is no page of 0 bytes. On standard error it says where that could not be done.
+pub fn write_page(rt: &impl Print, error: &impl Print, program: &[u8], page: &[u8], size: usize) {
+    if size == 0 || page.len() < size {
+        say(error, program, b"the page could not be made");
         return;
     }
-    if page.len() < size {
-        say(program, b"the page could not be made");
-        return;
-    }
-    if !io::write_all(STDOUT_FILENO, &page[..size]) {
-        say(program, b"the page could not be written whole");
+    if rt.write_all(&page[..size]).is_err() {
+        say(error, program, b"the page could not be written whole");
     }
 }

@@ -1,10 +1,11 @@
 // Reads a stream of requests to the writers on standard input and prints for each the number that the writer answers and the buffer in hex, or that
 // the request is broken. docs/FORMATS.md says what a request is.
 #![tactic(auto)]
+
 ghost use Rattle.std.specs.Prelude.{◌≤◌, ◌<◌, length};
 
-use libc::{STDERR_FILENO, STDIN_FILENO, STDOUT_FILENO};
 use run::Run;
+use std::io::Print;
 use streams::{COUNT, NUMBER};
 
 // The numbers from a place on, as many as the list has room for.
@@ -87,7 +88,7 @@ fn write(kind: u8, run: Run, s: &[u8], values: &[u32], out: &mut [u8]) -> u8 {
 }
 
 // Answers a request of a known kind from what follows the kind, or the log: fields, values, the buffer's length.
-fn serve_fields(kind: u8, run: Run, s: &[u8], list: &mut [u32], out: &mut [u8])
+fn serve_fields(rt: &impl Print, kind: u8, run: Run, s: &[u8], list: &mut [u32], out: &mut [u8])
     requires in_bounds { 65535 ≤ length list.old }
     requires in_bounds_2 { 65535 ≤ length out.old }
 {
@@ -95,53 +96,53 @@ fn serve_fields(kind: u8, run: Run, s: &[u8], list: &mut [u32], out: &mut [u8])
     let from = values_from(kind);
     let end = from + NUMBER * count;
     if s.len() != end + COUNT {
-        streams::answer_broken();
+        streams::answer_broken(rt);
         return;
     }
     let room = streams::two(s, end);
     load(s, from, &mut list[..count]);
     streams::fill(&mut out[..room]);
     let number = write(kind, run, s, &list[..count], &mut out[..room]);
-    streams::answer(number, &out[..room]);
+    streams::answer(rt, number, &out[..room]);
 }
 
 // Answers a VE or RE, from what follows the kind: the length of the log, the log, and the rest.
-fn serve_log(kind: u8, s: &[u8], list: &mut [u32], out: &mut [u8])
+fn serve_log(rt: &impl Print, kind: u8, s: &[u8], list: &mut [u32], out: &mut [u8])
     requires in_bounds { 65535 ≤ length list.old }
     requires in_bounds_2 { 65535 ≤ length out.old }
 {
     let end = streams::log_end(s);
     if end < NUMBER {
-        streams::answer_broken();
+        streams::answer_broken(rt);
         return;
     }
     let run = streams::run_of(&s[NUMBER..end]);
-    serve_fields(kind, run, &s[end..], list, out);
+    serve_fields(rt, kind, run, &s[end..], list, out);
 }
 
 // Answers one request.
-fn serve(request: &[u8], list: &mut [u32], out: &mut [u8])
+fn serve(rt: &impl Print, request: &[u8], list: &mut [u32], out: &mut [u8])
     requires in_bounds { 65535 ≤ length list.old }
     requires in_bounds_2 { 65535 ≤ length out.old }
 {
     if request.len() < 1 {
-        streams::answer_broken();
+        streams::answer_broken(rt);
         return;
     }
     let kind = records::byte(request, 0);
     if kind == SETUP || kind == DEALING {
-        serve_fields(kind, Run::fresh(), &request[1..], list, out);
+        serve_fields(rt, kind, Run::fresh(), &request[1..], list, out);
         return;
     }
     if kind == COMPLAINT || kind == RESPONSE {
-        serve_log(kind, &request[1..], list, out);
+        serve_log(rt, kind, &request[1..], list, out);
         return;
     }
-    streams::answer_broken();
+    streams::answer_broken(rt);
 }
 
 // Answers the request that a stream goes on with, and returns how many bytes it took with its length: all that are left where it is cut.
-fn serve_next(rest: &[u8], list: &mut [u32], out: &mut [u8]) -> usize
+fn serve_next(rt: &impl Print, rest: &[u8], list: &mut [u32], out: &mut [u8]) -> usize
     requires rest_nonzero { 0 < length rest.now }
     requires in_bounds { 65535 ≤ length list.old }
     requires in_bounds_2 { 65535 ≤ length out.old }
@@ -149,28 +150,28 @@ fn serve_next(rest: &[u8], list: &mut [u32], out: &mut [u8]) -> usize
 {
     let left = rest.len();
     if left < NUMBER {
-        streams::answer_broken();
+        streams::answer_broken(rt);
         return left;
     }
     let size = streams::four(rest, 0) as usize;
     if left - NUMBER < size {
-        streams::answer_broken();
+        streams::answer_broken(rt);
         return left;
     }
     let end = NUMBER + size;
-    serve(&rest[NUMBER..end], list, out);
+    serve(rt, &rest[NUMBER..end], list, out);
     end
 }
 
 // Answers every request of a stream.
-fn serve_all(s: &[u8], list: &mut [u32], out: &mut [u8])
+fn serve_all(rt: &impl Print, s: &[u8], list: &mut [u32], out: &mut [u8])
     requires in_bounds { 65535 ≤ length list.old }
     requires in_bounds_2 { 65535 ≤ length out.old }
 {
     let mut at: usize = 0;
     while at < s.len() {
         let rest = &s[at..];
-        at += serve_next(rest, list, out);
+        at += serve_next(rt, rest, list, out);
     }
 }
 
@@ -182,19 +183,20 @@ const VALUES: usize = 65535;
 
 const BUFFER: usize = 65535;
 
-fn main() {
+fn main(rt: HostRuntime) {
+    let mut input = rt.stdin();
     // One byte more than a stream may have, so that one which is too long is seen.
     let mut stream = [0u8; STREAM + 1];
-    let got = io::read_full(STDIN_FILENO, &mut stream);
+    let got = console::read_full(&mut input, &mut stream);
     if STREAM < got {
-        io::write_all(STDOUT_FILENO, b"long\n");
+        console::print_bytes(&rt, b"long\n");
         return;
     }
-    if !console::input_ended() {
-        io::write_all(STDERR_FILENO, b"scribe: the requests could not be read\n");
+    if !console::input_ended(&mut input) {
+        console::say(&rt.stderr(), b"scribe", b"the requests could not be read");
         return;
     }
     let mut list = [0u32; VALUES];
     let mut out = [0u8; BUFFER];
-    serve_all(&stream[..got], &mut list, &mut out);
+    serve_all(&rt, &stream[..got], &mut list, &mut out);
 }

@@ -1,10 +1,11 @@
 // Streams that programs read on standard input, the run of a log in one, and answers with a buffer in hex.
 #![tactic(auto)]
+
 ghost use Rattle.std.specs.Prelude.{◌≤◌, length};
 
-use libc::STDOUT_FILENO;
 use reader::LONGEST;
 use run::Run;
+use std::io::Print;
 
 // The bytes of a number, and of a count or a buffer's length.
 pub const NUMBER: usize = 4;
@@ -37,23 +38,23 @@ pub fn fill(out: &mut [u8]) {
 }
 
 // A byte as two digits of base sixteen.
-fn print_byte(byte: u8) {
-    io::print_hex(STDOUT_FILENO, byte as u64, 2);
+fn print_byte(rt: &impl Print, byte: u8) {
+    console::print_hex(rt, byte);
 }
 
 // The line of an answer: its number, and the buffer.
-pub fn answer(number: u8, out: &[u8]) {
-    console::print_number(number as u64);
+pub fn answer(rt: &impl Print, number: u8, out: &[u8]) {
+    console::print_number(rt, number as u64);
     let size = out.len();
     for i in 0..size {
-        print_byte(out[i]);
+        print_byte(rt, out[i]);
     }
-    console::end_line();
+    console::end_line(rt);
 }
 
 // The line of a broken request.
-pub fn answer_broken() {
-    io::write_all(STDOUT_FILENO, b"broken\n");
+pub fn answer_broken(rt: &impl Print) {
+    console::print_bytes(rt, b"broken\n");
 }
 
 // The run after a log.

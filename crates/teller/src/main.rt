@@ -1,8 +1,9 @@
 // Reads numbers of parties with masks on standard input, and prints for each how large the set is. docs/FORMATS.md says what stands where.
 #![tactic(auto)]
+
 ghost use Rattle.std.specs.Prelude.{◌+◌, ◌≤◌, length};
 
-use libc::{STDERR_FILENO, STDIN_FILENO, STDOUT_FILENO};
+use std::io::Print;
 
 // The bytes of an entry: the number of parties, and the mask.
 const ENTRY: usize = 9;
@@ -59,21 +60,22 @@ fn put_entries(s: &[u8], out: &mut [u8]) -> usize
 }
 
 // Prints the lines of a stream.
-fn tell(s: &[u8], out: &mut [u8])
+fn tell(rt: &impl Print, s: &[u8], out: &mut [u8])
     requires { 284000 ≤ length out.old }
 {
     let size = put_entries(s, out);
-    io::write_all(STDOUT_FILENO, &out[..size]);
+    console::print_bytes(rt, &out[..size]);
 }
 
-fn main() {
+fn main(rt: HostRuntime) {
+    let mut input = rt.stdin();
     // One byte more than a stream may have, so that one which is too long is seen.
     let mut stream = [0u8; STREAM + 1];
-    let got = io::read_full(STDIN_FILENO, &mut stream);
-    if got <= STREAM && !console::input_ended() {
-        io::write_all(STDERR_FILENO, b"teller: the masks could not be read\n");
+    let got = console::read_full(&mut input, &mut stream);
+    if got <= STREAM && !console::input_ended(&mut input) {
+        console::say(&rt.stderr(), b"teller", b"the masks could not be read");
         return;
     }
     let mut lines = [0u8; LINES];
-    tell(&stream[..got], &mut lines);
+    tell(&rt, &stream[..got], &mut lines);
 }
