@@ -4,14 +4,14 @@ use Rattle.std.proofs.Common.{◌∙◌, arith}
 use Rattle.lists.specs.Stores.{filled}
 use Rattle.lists.specs.StoreLaws.{length_filled, length_stored, stored_from}
 use Rattle.sets.specs.Masks.{has, members, count}
-use Rattle.sets.specs.MemberLaws.{count_bits}
+use Rattle.sets.proofs.MemberLaws.{count_bits}
 use Rattle.field.specs.declared.Scalar.{Scalar}
 use Rattle.field.specs.declared.Element.{Element}
 use Rattle.field.specs.Definitions.{scalar, identity}
 use Rattle.interpolation.specs.Definitions.{party, slot, committed_point, scalar_at, element_at}
 use Rattle.rows.specs.Definitions.{most_scalars, listed, weights_of, sum_of, product_of}
-use Rattle.interpolation.specs.WeightLaws.{scalar_at_cong, element_at_cong}
-use Rattle.rows.specs.RowLaws.{sum_weights, product_weights}
+use Rattle.interpolation.proofs.WeightLaws.{scalar_at_cong, element_at_cong}
+use Rattle.rows.proofs.RowLaws.{sum_weights, product_weights}
 use Rattle.arrays.specs.Arrays.{base, challenge_in, member_points, member_numbers, elements, scalars}
 
 -- sixty-four places

@@ -6,7 +6,7 @@ use Rattle.std.proofs.Math.Seq.{get_or-append_seam}
 use Rattle.lists.specs.Stores.{stored, filled}
 use Rattle.lists.specs.StoreLaws.{stored_none, stored_first, stored_capped, stored_cong, length_filled}
 use Rattle.sets.specs.Masks.{members, count}
-use Rattle.sets.specs.MemberLaws.{members_next, count_none}
+use Rattle.sets.proofs.MemberLaws.{members_next, count_none}
 use Rattle.rows.specs.Definitions.{most_scalars}
 
 -- the array once k values are stored

@@ -1,1 +1,4 @@
 pub mod Taking
+pub mod BundleLaws
+pub mod CutLaws
+pub mod RowLaws

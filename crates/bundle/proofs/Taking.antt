@@ -12,8 +12,8 @@ use Rattle.run.specs.declared.Reply.{Reply}
 use Rattle.run.specs.Runs.{stage_of}
 use Rattle.run.specs.Steps.{step_of, after_from}
 use Rattle.bundle.specs.Bundles.{numbers_from}
-use Rattle.bundle.specs.CutLaws.{cut, cut_none, cut_next, row_length, rest_is}
-use Rattle.bundle.specs.RowLaws.{Kept, kept_start}
+use Rattle.bundle.proofs.CutLaws.{cut, cut_none, cut_next, row_length, rest_is}
+use Rattle.bundle.proofs.RowLaws.{Kept, kept_start}
 
 pub record Taking (r : Run) (s : List ℕ) (size count : ℕ) (list : List ℕ) (next : Run) (from x : ℕ) : Type 0 where
   pub within : from ≤ length s

@@ -1,4 +1,1 @@
 pub mod Bundles
-pub mod CutLaws
-pub mod RowLaws
-pub mod BundleLaws

@@ -1,3 +1,2 @@
 pub mod Closing
 pub mod SignatureLaws
-pub mod LengthLaws

@@ -1,1 +1,4 @@
 pub mod Loops
+pub mod CombinedLaws
+pub mod PowerLaws
+pub mod TableLaws

@@ -4,8 +4,8 @@ use mathlib.Core.Bool.{Bool, true, false}
 use Prim.Native.Nat.{ℕ, ◌+◌}
 use Rattle.field.specs.declared.Element.{Element}
 use Rattle.field.specs.Definitions.{identity, product, powered}
-use Rattle.field.specs.ElementLaws.{product_powered_one}
-use Rattle.protocol.specs.ProductLaws.{product_over_none, product_over_skip, product_over_take, exponent_first}
+use Rattle.field.proofs.ElementLaws.{product_powered_one}
+use Rattle.protocol.proofs.ProductLaws.{product_over_none, product_over_skip, product_over_take, exponent_first}
 use Rattle.combination.specs.Combination.{combined_value}
 
 -- ---- the product over a set of dealers, one dealer a turn

@@ -1,5 +1,2 @@
 pub mod Combination
-pub mod CombinedLaws
-pub mod PowerLaws
 pub mod Tables
-pub mod TableLaws

@@ -13,7 +13,7 @@ use Rattle.algebra.specs.Fold.{fold}
 use Rattle.algebra.specs.FoldLaws.{fold_cong, fold_keeps}
 use Rattle.lists.specs.TestLaws.{pick_case}
 use Rattle.sets.specs.Masks.{has, insert}
-use Rattle.sets.specs.MaskLaws.{has_none, has_zero, has_or, has_insert}
+use Rattle.sets.proofs.MaskLaws.{has_none, has_zero, has_or, has_insert}
 use Rattle.parameters.specs.Definitions.{most_parties}
 use Rattle.records.specs.Bytes.{sender}
 use Rattle.records.specs.Tags.{mask_at}

@@ -1,3 +1,1 @@
 pub mod Dealt
-pub mod FitLaws
-pub mod DealtLaws

@@ -5,7 +5,7 @@ use mathlib.Core.Bool.{false, and-false}
 use Prim.Native.Nat.{ℕ, ◌-◌, ◌<◌}
 use lib.ListN.{length, get_or-eq_default}
 use Rattle.sets.specs.Masks.{has}
-use Rattle.sets.specs.MaskLaws.{has_none, has_zero}
+use Rattle.sets.proofs.MaskLaws.{has_none, has_zero}
 use Rattle.dealing.specs.declared.Dealings.{Dealings}
 use Rattle.dealing.specs.Definitions.{may_blame}
 

@@ -6,14 +6,14 @@ use Prim.Native.Nat.{ℕ, ◌+◌, ◌-◌, ◌<◌}
 use native.Mathlib.Omega.{arith}
 use Rattle.lists.specs.Tests.{pick}
 use Rattle.sets.specs.Masks.{mask_of, insert}
-use Rattle.sets.specs.MaskLaws.{mask_of_insert, mask_of_cong}
+use Rattle.sets.proofs.MaskLaws.{mask_of_insert, mask_of_cong}
 use Rattle.field.specs.declared.Element.{Element}
 use Rattle.field.specs.Definitions.{scalar, element, generator, raise, same_element}
 use Rattle.rows.specs.declared.Row.{Row}
 use Rattle.rows.specs.declared.Basis.{Basis}
 use Rattle.interpolation.specs.Definitions.{party, committed_point}
 use Rattle.rows.specs.Definitions.{listed, product_of, basis_of, weights_by}
-use Rattle.rows.specs.BasisLaws.{weights_by_is}
+use Rattle.rows.proofs.BasisLaws.{weights_by_is}
 use Rattle.parameters.specs.Definitions.{in_bounds, quorum}
 use Rattle.records.specs.Bytes.{word}
 use Rattle.records.specs.Tags.{shares_from}

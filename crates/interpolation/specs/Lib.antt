@@ -1,7 +1,1 @@
 pub mod Definitions
-pub mod WeightLaws
-pub mod StructureLaws
-pub mod PointLaws
-pub mod PolynomialLaws
-pub mod ExponentialLaws
-pub mod ProductLaws

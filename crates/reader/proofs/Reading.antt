@@ -6,18 +6,18 @@ use native.Mathlib.Omega.{arith}
 use lib.ListN.{length, take, drop, set, length-drop, drop_of_length-le}
 use lib.Seq.{drop-drop, take-suc-set}
 use Rattle.text.specs.Texts.{Wrote, Ahead}
-use Rattle.text.specs.TextLaws.{wrote_none, ahead_start, ahead_next, ahead_last, ahead_length}
+use Rattle.text.proofs.TextLaws.{wrote_none, ahead_start, ahead_next, ahead_last, ahead_length}
 use Rattle.run.specs.declared.Run.{Run}
 use Rattle.run.specs.Runs.{fresh}
 use Rattle.run.specs.Steps.{step_of, after_from}
 use Rattle.run.specs.PartyLaws.{Few, few_fresh, few_after}
 use Rattle.reader.specs.Cutting.{run_of, records_of}
 use Rattle.reader.specs.Report.{longest, refusal_lines}
-use Rattle.reader.specs.LengthLaws.{lines_max}
+use Rattle.reader.proofs.LengthLaws.{lines_max}
 use Rattle.reader.specs.Turns.{next_length, next_record, lines_from, run_from}
-use Rattle.reader.specs.TurnLaws.{lines_none, lines_start, run_none, run_start}
+use Rattle.reader.proofs.TurnLaws.{lines_none, lines_start, run_none, run_start}
 use Rattle.reader.specs.Stretches.{number_lines}
-use Rattle.reader.specs.StretchLaws.{Turn, turn_lines, turn_run, turn_record}
+use Rattle.reader.proofs.StretchLaws.{Turn, turn_lines, turn_run, turn_record}
 use Rattle.bundle.specs.Bundles.{numbers_from}
 
 pub record Reading (log before after : List ℕ) (r : Run) (from at position : ℕ) : Type 0 where

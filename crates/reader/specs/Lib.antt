@@ -3,8 +3,3 @@ pub mod Report
 pub mod Printed
 pub mod Turns
 pub mod Stretches
-pub mod StretchLaws
-pub mod TurnLaws
-pub mod Endings
-pub mod LengthLaws
-pub mod ReportLaws

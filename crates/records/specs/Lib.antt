@@ -1,4 +1,2 @@
 pub mod Bytes
 pub mod Tags
-pub mod RecordLaws
-pub mod MaskLaws

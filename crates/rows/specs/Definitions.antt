@@ -8,7 +8,7 @@ use Rattle.field.specs.Definitions.{scalar, identity, plus, times, inverse, prod
 use Rattle.rows.specs.declared.Row.{Row}
 use Rattle.rows.specs.declared.Basis.{Basis}
 use Rattle.interpolation.specs.Definitions.{weight}
-use Rattle.interpolation.specs.WeightLaws.{differences}
+use Rattle.interpolation.proofs.WeightLaws.{differences}
 
 -- the most scalars of a row
 abbrev pub most_scalars : ℕ

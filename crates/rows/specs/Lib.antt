@@ -1,4 +1,2 @@
 pub mod Definitions
-pub mod RowLaws
 pub mod BasisLaws
-pub mod TurnLaws

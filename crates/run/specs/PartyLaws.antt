@@ -5,7 +5,7 @@ use Rattle.std.proofs.Common.{arith}
 use Rattle.parameters.specs.Definitions.{most_parties, quorum}
 use Rattle.records.specs.Tags.{tag_of}
 use Rattle.refusals.specs.Refusals.{setup_refusal, challenges_refusal, shifted_refusal}
-use Rattle.refusals.specs.RefusalLaws.{setup_passed}
+use Rattle.refusals.proofs.RefusalLaws.{setup_passed}
 use Rattle.dealing.specs.Definitions.{no_setup, setup_of, dealing_number}
 use Rattle.complaint.specs.Definitions.{complaint_number}
 use Rattle.response.specs.Definitions.{response_number}

@@ -7,7 +7,7 @@ use Rattle.refusals.specs.Refusals.{setup_refusal, challenges_refusal, shifted_r
 use Rattle.dealing.specs.Definitions.{dealing_number}
 use Rattle.complaint.specs.Definitions.{complaint_number}
 use Rattle.response.specs.Definitions.{response_number}
-use Rattle.response.specs.ResponseLaws.{found_untested}
+use Rattle.response.proofs.ResponseLaws.{found_untested}
 use Rattle.run.specs.declared.Run.{Run}
 use Rattle.stages.specs.declared.Handler.{Handler}
 use Rattle.stages.specs.declared.Handler.TheVariants.{TakeSetup, TakeWaiting, TakeDealing, TakeGo, TakeComplaint, TakeChallenges, TakeShifted, TakeResponse, Refuse}

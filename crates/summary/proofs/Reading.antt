@@ -11,10 +11,10 @@ use Rattle.run.specs.Runs.{fresh}
 use Rattle.run.specs.Steps.{step_of, after_from, after}
 use Rattle.reader.specs.Cutting.{length_of}
 use Rattle.reader.specs.Turns.{next_length, next_record}
-use Rattle.reader.specs.TurnLaws.{next_max}
+use Rattle.reader.proofs.TurnLaws.{next_max}
 use Rattle.summary.specs.Consumed.{settled, read_of, counted_length, counted_from, consumed}
-use Rattle.summary.specs.ReadLaws.{read_from, read_start, read_none, read_settled, read_next}
-use Rattle.summary.specs.CountLaws.{counted_max}
+use Rattle.summary.proofs.ReadLaws.{read_from, read_start, read_none, read_settled, read_next}
+use Rattle.summary.proofs.CountLaws.{counted_max}
 
 pub record Reading (log : List ℕ) (r : Run) (from bytes : ℕ) : Type 0 where
   pub within : from ≤ length log

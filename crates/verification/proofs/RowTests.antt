@@ -13,7 +13,7 @@ use Rattle.field.specs.Definitions.{scalar, generator, product, raise, same_elem
 use Rattle.rows.specs.declared.Row.{Row}
 use Rattle.interpolation.specs.Definitions.{party, slot, committed_point}
 use Rattle.rows.specs.Definitions.{listed, weights_of, sum_of, product_of}
-use Rattle.rows.specs.TurnLaws.{first, first_weights}
+use Rattle.rows.proofs.TurnLaws.{first, first_weights}
 use Rattle.parameters.specs.Definitions.{quorum}
 use Rattle.records.specs.Bytes.{word, sender}
 use Rattle.parameters.specs.ParameterLaws.{Bounds, key_max}

@@ -2,18 +2,18 @@
 use Rattle.std.specs.Prelude.{◌≡◌, refl, ℕ}
 use Rattle.std.proofs.Common.{sym, ◌∙◌, arith}
 use Rattle.sets.specs.Masks.{has}
-use Rattle.sets.specs.MaskLaws.{has_minus}
+use Rattle.sets.proofs.MaskLaws.{has_minus}
 use Rattle.field.specs.declared.Scalar.{Scalar}
 use Rattle.interpolation.specs.Definitions.{committed_point}
 use Rattle.rows.specs.Definitions.{listed, weights_of, product_of}
-use Rattle.interpolation.specs.WeightLaws.{element_at_cong}
+use Rattle.interpolation.proofs.WeightLaws.{element_at_cong}
 use Rattle.parameters.specs.Definitions.{quorum}
 use Rattle.parameters.specs.ParameterLaws.{Bounds, quorum_max}
 use Rattle.protocol.specs.Transcript.{combined_at}
 use Rattle.arrays.specs.Arrays.{commitment_in, elements}
 use Rattle.combination.specs.Combination.{combined_value}
 use Rattle.arrays.specs.ArrayLaws.{values_interpolated}
-use Rattle.combination.specs.CombinedLaws.{combined_values, combined_value_same}
+use Rattle.combination.proofs.CombinedLaws.{combined_values, combined_value_same}
 use Rattle.dealing.specs.declared.Setup.{Setup}
 use Rattle.dealing.specs.declared.Dealings.{Dealings}
 use Rattle.complaint.specs.declared.Complaints.{Complaints}

@@ -1,4 +1,1 @@
 pub mod Writers
-pub mod WriterLaws
-pub mod HonestLaws
-pub mod Accepted

@@ -5,7 +5,7 @@ use borrow.Author.Tests.{le-leb, lt-leb}
 use Rattle.lists.specs.CallLaws.{holds, fails}
 use Prim.Native.Nat.{◌≤◌, ◌<◌}
 use mathlib.Core.Path.{◌≡◌, refl, sym, ap, ap₂, ◌∙◌}
-use Rattle.interpolation.specs.PointLaws.{slot_is}
+use Rattle.interpolation.proofs.PointLaws.{slot_is}
 use Rattle.parameters.specs.ParameterLaws.{bounds_test}
 use Rattle.field.specs.Definitions.{product}
 use Rattle.protocol.specs.Transcript.{nonce, shifted_element, shifted_nonce, combined_at}

@@ -7,7 +7,7 @@ use mathlib.Core.List.{List}
 use Prim.Native.Nat.{ℕ, ◌+◌, ◌-◌, ◌*◌, ◌≤◌, ◌<◌}
 use lib.ListN.{length, get_or, get_or-eq_default}
 use Rattle.sets.specs.Masks.{has, members}
-use Rattle.sets.specs.MemberLaws.{count_before}
+use Rattle.sets.proofs.MemberLaws.{count_before}
 use Rattle.field.specs.declared.Scalar.{Scalar}
 use Rattle.field.specs.Definitions.{scalar}
 use Rattle.parameters.specs.Definitions.{stride, places}

@@ -7,13 +7,13 @@ use mathlib.Core.List.{List}
 use Prim.Native.Nat.{ℕ, ◌-◌, ◌≤◌, ◌<◌}
 use lib.ListN.{get_or}
 use Rattle.sets.specs.Masks.{has, members, count}
-use Rattle.sets.specs.MemberLaws.{count_before, count_bits}
+use Rattle.sets.proofs.MemberLaws.{count_before, count_bits}
 use Rattle.field.specs.declared.Scalar.{Scalar}
 use Rattle.field.specs.Definitions.{scalar}
 use Rattle.rows.specs.declared.Row.{Row}
 use Rattle.interpolation.specs.Definitions.{party}
-use Rattle.interpolation.specs.PointLaws.{party_is}
-use Rattle.rows.specs.RowLaws.{listed_is}
+use Rattle.interpolation.proofs.PointLaws.{party_is}
+use Rattle.rows.proofs.RowLaws.{listed_is}
 use Rattle.arrays.specs.Arrays.{member_points}
 use Rattle.arrays.specs.LoopLaws.{chosen, Passed, passed_none, passed_skip, passed_take}
 use Rattle.arrays.proofs.member_points.Given as goal

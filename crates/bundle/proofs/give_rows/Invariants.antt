@@ -23,8 +23,8 @@ use Rattle.run.specs.RunLaws.{Formed, formed_of, formed_batch, stage_live}
 use Rattle.run.specs.Steps.{step_of, untaken, after_from, after_response}
 use Rattle.run.specs.RefusalLaws.{untaken_refused}
 use Rattle.bundle.specs.Bundles.{outcome, rows_of, numbers_from}
-use Rattle.bundle.specs.CutLaws.{left_is, cut, row_length, row_is}
-use Rattle.bundle.specs.RowLaws.{stage_batch, Kept, kept_response, passes_at, same_test, only_row, row_taken, row_refused}
+use Rattle.bundle.proofs.CutLaws.{left_is, cut, row_length, row_is}
+use Rattle.bundle.proofs.RowLaws.{stage_batch, Kept, kept_response, passes_at, same_test, only_row, row_taken, row_refused}
 use Rattle.bundle.proofs.Taking.{Taking, taking_start, taking_next, taking_run, taking_numbers}
 use Rattle.bundle.proofs.give_rows.Given as goal
 

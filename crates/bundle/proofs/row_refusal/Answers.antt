@@ -5,7 +5,7 @@ use mathlib.Core.Path.{◌≡◌, sym, ◌∙◌}
 use Rattle.records.specs.Tags.{code, tag_of}
 use Rattle.run.specs.Runs.{stage_of}
 use Rattle.run.specs.Steps.{untaken_by}
-use Rattle.bundle.specs.RowLaws.{by_unknown, by_other, by_stage, by_row}
+use Rattle.bundle.proofs.RowLaws.{by_unknown, by_other, by_stage, by_row}
 use Rattle.bundle.proofs.row_refusal.Goals as goal
 use Rattle.bundle.proofs.row_refusal.Lts as lts
 use Rattle.bundle.proofs.row_refusal.Reads as reads

@@ -9,7 +9,7 @@ use Rattle.records.specs.Tags.{response_length}
 use Rattle.run.specs.declared.Reply.{Reply}
 use Rattle.run.specs.Runs.{stage_of}
 use Rattle.bundle.specs.Bundles.{outcome, rows_of}
-use Rattle.bundle.specs.BundleLaws.{rows_count, bundle_stage, bundle_places, bundle_given}
+use Rattle.bundle.proofs.BundleLaws.{rows_count, bundle_stage, bundle_places, bundle_given}
 use Rattle.bundle.proofs.take_rows.Goals as goal
 use Rattle.bundle.proofs.take_rows.Lts as lts
 use Rattle.bundle.proofs.take_rows.Reads as reads

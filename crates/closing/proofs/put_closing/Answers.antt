@@ -10,11 +10,11 @@ use lib.Dec.{eqb}
 use lib.ListN.{length}
 use Rattle.lists.specs.Tests.{pick}
 use Rattle.text.specs.Texts.{Wrote}
-use Rattle.text.specs.TextLaws.{wrote_none, wrote_length, wrote_append}
+use Rattle.text.proofs.TextLaws.{wrote_none, wrote_length, wrote_append}
 use Rattle.run.specs.Runs.{stage_of}
 use Rattle.run.specs.RunLaws.{stage_live}
 use Rattle.closing.specs.Closing.{most_sets, most_lines, signature_lines, closing}
-use Rattle.closing.specs.LengthLaws.{signed_max, sets_max}
+use Rattle.closing.proofs.LengthLaws.{signed_max, sets_max}
 use Rattle.closing.proofs.put_closing.Goals as goal
 use Rattle.closing.proofs.put_closing.Goals.{then-stage-eq5, else-stage-eq5}
 use Rattle.closing.proofs.put_closing.Lts as lts

@@ -4,8 +4,8 @@ use Prim.Native.Nat.{◌+◌, ◌*◌, ◌≤◌}
 use native.Mathlib.Omega.{arith}
 use borrow.Author.Rules.{rules}
 use lib.ListN.{length}
-use Rattle.text.specs.TextLaws.{wrote_append}
-use Rattle.text.specs.LineLaws.{set_place}
+use Rattle.text.proofs.TextLaws.{wrote_append}
+use Rattle.text.proofs.LineLaws.{set_place}
 use Rattle.closing.specs.Closing.{most_set, set_lines}
 use Rattle.closing.proofs.put_sets.Goals as goal
 use Rattle.closing.proofs.put_sets.Lts as lts

@@ -8,12 +8,12 @@ use lib.ListN.{length}
 use Rattle.parameters.specs.Definitions.{most_parties}
 use Rattle.parameters.specs.ParameterLaws.{cells_max}
 use Rattle.text.specs.Texts.{Wrote}
-use Rattle.text.specs.TextLaws.{wrote_none, wrote_length, wrote_append}
+use Rattle.text.proofs.TextLaws.{wrote_none, wrote_length, wrote_append}
 use Rattle.combination.specs.Combination.{powers_at}
-use Rattle.combination.specs.PowerLaws.{powers_none, powers_next}
+use Rattle.combination.proofs.PowerLaws.{powers_none, powers_next}
 use Rattle.run.specs.RunLaws.{Formed, formed_of, formed_batch}
 use Rattle.closing.specs.Closing.{most_line, signature_lines}
-use Rattle.closing.specs.SignatureLaws.{rows_next, signatures_max}
+use Rattle.closing.proofs.SignatureLaws.{rows_next, signatures_max}
 use Rattle.closing.proofs.put_signatures.Given as goal
 
 abbrev pub invariant-loop-u : goal.invariant-loop-u

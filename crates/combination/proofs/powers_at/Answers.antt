@@ -4,7 +4,7 @@ use native.Mathlib.Omega.{arith}
 use mathlib.Core.Path.{◌≡◌, ap, ◌∙◌}
 use Prim.Native.Nat.{◌-◌, ◌≤◌}
 use Rattle.combination.specs.Combination.{powers_at}
-use Rattle.combination.specs.PowerLaws.{powers_none, powers_next}
+use Rattle.combination.proofs.PowerLaws.{powers_none, powers_next}
 use Rattle.combination.proofs.powers_at.Goals as goal
 
 pub loop-step-init : goal.loop-step-init

@@ -10,7 +10,7 @@ use Rattle.lists.specs.Stores.{stored}
 use Rattle.lists.specs.StoreLaws.{get_d_default, stored_first, stored_capped}
 use Rattle.field.specs.declared.Element.{Element}
 use Rattle.field.specs.Definitions.{identity, powered}
-use Rattle.field.specs.ElementLaws.{identity_powered, same_is}
+use Rattle.field.proofs.ElementLaws.{identity_powered, same_is}
 use Rattle.parameters.specs.Definitions.{stride, places}
 use Rattle.combination.specs.Combination.{raised}
 use Rattle.combination.proofs.raised.Given as goal

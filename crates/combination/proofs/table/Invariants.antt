@@ -6,9 +6,9 @@ use mathlib.Core.Path.{◌≡◌, ap, ◌∙◌}
 use Prim.Native.Nat.{◌+◌, ◌-◌, ◌≤◌}
 use Rattle.parameters.specs.Definitions.{most_parties}
 use Rattle.combination.specs.Combination.{powers_at}
-use Rattle.combination.specs.PowerLaws.{powers_none, powers_for}
+use Rattle.combination.proofs.PowerLaws.{powers_none, powers_for}
 use Rattle.combination.specs.Tables.{table_to}
-use Rattle.combination.specs.TableLaws.{table_none, table_more}
+use Rattle.combination.proofs.TableLaws.{table_none, table_more}
 use Rattle.combination.proofs.table.Given as goal
 
 abbrev pub invariant-loop-u : goal.invariant-loop-u

@@ -9,11 +9,11 @@ use Rattle.field.specs.declared.Scalar.{Scalar}
 use Rattle.field.specs.Definitions.{scalar}
 use Rattle.rows.specs.declared.Row.{Row}
 use Rattle.interpolation.specs.Definitions.{point, party, committed_point}
-use Rattle.interpolation.specs.PointLaws.{party_is}
+use Rattle.interpolation.proofs.PointLaws.{party_is}
 use Rattle.rows.specs.Definitions.{listed, weights_of, sum_of}
 use Rattle.parameters.specs.Definitions.{quorum}
 use Rattle.parameters.specs.ParameterLaws.{bounds_of, quorum_max}
-use Rattle.encoding.specs.StoreLaws.{Put, put_none, put_next}
+use Rattle.encoding.proofs.StoreLaws.{Put, put_none, put_next}
 use Rattle.arrays.specs.Arrays.{scalars}
 use Rattle.arrays.specs.ArrayLaws.{scalars_interpolated}
 use Rattle.dealer.specs.Dealt.{share_for}

@@ -11,10 +11,10 @@ use Rattle.parameters.specs.Definitions.{quorum}
 use Rattle.records.specs.Tags.{letter_d, letter_e, dealing_length}
 use Rattle.parameters.specs.ParameterLaws.{bounds_test}
 use Rattle.encoding.specs.Bytes.{fours, power_of_four}
-use Rattle.encoding.specs.ByteLaws.{length_fours}
-use Rattle.encoding.specs.StoreLaws.{sets_parts}
+use Rattle.encoding.proofs.ByteLaws.{length_fours}
+use Rattle.encoding.proofs.StoreLaws.{sets_parts}
 use Rattle.dealer.specs.Dealt.{share_for, dealing_bytes}
-use Rattle.dealer.specs.FitLaws.{DealingFits, dealing_fits}
+use Rattle.dealer.proofs.FitLaws.{DealingFits, dealing_fits}
 use Rattle.dealer.proofs.write_dealing.Goals as goal
 use Rattle.dealer.proofs.write_dealing.Lts as lts
 use Rattle.dealer.proofs.write_dealing.Reads as reads

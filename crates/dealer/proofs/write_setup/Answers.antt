@@ -8,10 +8,10 @@ use borrow.Author.Tests.{ne_eqb}
 use lib.ListN.{length, get_or, length-set}
 use Rattle.records.specs.Tags.{letter_s, letter_u, setup_length}
 use Rattle.encoding.specs.Bytes.{four, fours, power_of_four}
-use Rattle.encoding.specs.ByteLaws.{length_fours}
-use Rattle.encoding.specs.StoreLaws.{sets_parts}
+use Rattle.encoding.proofs.ByteLaws.{length_fours}
+use Rattle.encoding.proofs.StoreLaws.{sets_parts}
 use Rattle.dealer.specs.Dealt.{setup_bytes}
-use Rattle.dealer.specs.FitLaws.{SetupFits, setup_fits}
+use Rattle.dealer.proofs.FitLaws.{SetupFits, setup_fits}
 use Rattle.dealer.proofs.write_setup.Goals as goal
 use Rattle.dealer.proofs.write_setup.Lts as lts
 use Rattle.dealer.proofs.write_setup.Reads as reads

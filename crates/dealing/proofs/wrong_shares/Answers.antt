@@ -7,7 +7,7 @@ use mathlib.Core.Path.{◌≡◌, refl, ap, sym, ◌∙◌}
 use Prim.Native.Nat.{ℕ, ◌+◌, ◌-◌, ◌≤◌}
 use Rattle.sets.specs.Masks.{mask_of, insert}
 use Rattle.rows.specs.Definitions.{weights_by}
-use Rattle.interpolation.specs.PointLaws.{party_is}
+use Rattle.interpolation.proofs.PointLaws.{party_is}
 use Rattle.parameters.specs.Definitions.{most_parties}
 use Rattle.parameters.specs.ParameterLaws.{bounds_of, quorum_max}
 use Rattle.dealing.proofs.Shares.{unfit, share_next, wrong_shares_are}

@@ -6,7 +6,7 @@ use Prim.Native.Nat.{◌+◌, ◌-◌, ◌≤◌}
 use lib.ListN.{length, length-set}
 use lib.Seq.{sets}
 use Rattle.encoding.specs.Bytes.{bytes_of}
-use Rattle.encoding.specs.StoreLaws.{bytes_first, bytes_next, bytes_last}
+use Rattle.encoding.proofs.StoreLaws.{bytes_first, bytes_next, bytes_last}
 use Rattle.encoding.proofs.put_bytes.Goals as goal
 
 pub loop-i-init : goal.loop-i-init

@@ -6,7 +6,7 @@ use borrow.Author.Rules.{rules}
 use lib.ListN.{length, get_or}
 use Rattle.field.specs.declared.Element.{Element}
 use Rattle.encoding.specs.Bytes.{power_of_four}
-use Rattle.encoding.specs.StoreLaws.{Put, put_none, put_next}
+use Rattle.encoding.proofs.StoreLaws.{Put, put_none, put_next}
 use Rattle.encoding.proofs.put_powers.Goals as goal
 
 pub loop-i-init : goal.loop-i-init

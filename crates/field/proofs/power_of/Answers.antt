@@ -5,7 +5,7 @@ use native.Mathlib.Nat.{pow-zero, mod-lt, one-mul}
 use mathlib.Core.Logic.{⊎_elim}
 use mathlib.Core.Path.{◌≡◌, ◌∙◌, ap, sym}
 use Prim.Native.Nat.{ℕ, ◌*◌, ◌%◌, ◌^◌, ◌<◌}
-use Rattle.field.specs.PowerLaws.{pow_one, power_is, even_turn, odd_turn}
+use Rattle.field.proofs.PowerLaws.{pow_one, power_is, even_turn, odd_turn}
 use Rattle.field.proofs.Fits.{product_fits}
 use Rattle.field.proofs.power_of.Goals as goal
 use Rattle.field.proofs.power_of.Goals.{then-left-eq1, else-left-eq1, then-left-eq1-2, else-left-eq1-2}

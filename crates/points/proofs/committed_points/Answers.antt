@@ -5,8 +5,8 @@ use mathlib.Core.Logic.{⊎_elim}
 use mathlib.Core.Path.{◌≡◌, sym, ◌∙◌}
 use Prim.Native.Nat.{◌-◌, ◌≤◌, min}
 use Rattle.interpolation.specs.Definitions.{committed_point}
-use Rattle.interpolation.specs.PointLaws.{committed_is}
-use Rattle.rows.specs.RowLaws.{front, front_none, front_next, front_row}
+use Rattle.interpolation.proofs.PointLaws.{committed_is}
+use Rattle.rows.proofs.RowLaws.{front, front_none, front_next, front_row}
 use Rattle.points.proofs.committed_points.Goals as goal
 use Rattle.points.proofs.committed_points.Goals.{then-count-lt-MOST_SCALARS, else-count-lt-MOST_SCALARS}
 

@@ -2,7 +2,7 @@
 use borrow.Author.Rules.{rules}
 use mathlib.Core.Path.{◌∙◌, ap₂, sym}
 use Rattle.field.specs.Definitions.{minus}
-use Rattle.interpolation.specs.PointLaws.{point_is}
+use Rattle.interpolation.proofs.PointLaws.{point_is}
 use Rattle.points.proofs.point.Goals as goal
 
 pub returns : goal.returns

@@ -8,19 +8,19 @@ use native.Mathlib.Omega.{arith}
 use borrow.Author.Rules.{rules}
 use lib.ListN.{length, take, drop, length-append, length-set, length-drop}
 use lib.Seq.{length-take-le, take_at}
-use Rattle.text.specs.TextLaws.{wrote_append}
+use Rattle.text.proofs.TextLaws.{wrote_append}
 use Rattle.records.specs.Tags.{response_length}
 use Rattle.run.specs.declared.Reply.{Reply}
 use Rattle.run.specs.declared.Run.{Run}
 use Rattle.run.specs.Steps.{step_of, untaken, after_from}
 use Rattle.run.specs.RefusalLaws.{untaken_refused}
 use Rattle.bundle.specs.Bundles.{Outcome, outcome, rows_of, numbers_from}
-use Rattle.bundle.specs.BundleLaws.{bundle_given}
-use Rattle.bundle.specs.CutLaws.{left_is}
+use Rattle.bundle.proofs.BundleLaws.{bundle_given}
+use Rattle.bundle.proofs.CutLaws.{left_is}
 use Rattle.reader.specs.Turns.{next_length, next_record}
-use Rattle.reader.specs.TurnLaws.{next_within}
+use Rattle.reader.proofs.TurnLaws.{next_within}
 use Rattle.reader.specs.Stretches.{most_rows, stretch_of, rows_ahead}
-use Rattle.reader.specs.StretchLaws.{Turn, numbers_length, row_bytes, rows_some, rows_max, rows_are, turn_rows}
+use Rattle.reader.proofs.StretchLaws.{Turn, numbers_length, row_bytes, rows_some, rows_max, rows_are, turn_rows}
 use Rattle.reader.proofs.Reading.{Reading, Given, given_same, record_given, reading_start, reading_place, reading_length, reading_next, reading_lines, reading_run}
 use Rattle.reader.proofs.put_page.Given as goal
 

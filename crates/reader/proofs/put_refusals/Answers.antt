@@ -9,11 +9,11 @@ use Prim.Native.Nat.{ℕ, ◌+◌, ◌*◌, ◌-◌, ◌≤◌}
 use lib.ListN.{length, get_or, take}
 use lib.Seq.{take_all}
 use Rattle.text.specs.Texts.{Wrote}
-use Rattle.text.specs.TextLaws.{wrote_none, wrote_append, wrote_length}
+use Rattle.text.proofs.TextLaws.{wrote_none, wrote_append, wrote_length}
 use Rattle.reader.specs.Report.{most_refusal, refusal_line}
 use Rattle.reader.specs.Stretches.{number_lines}
-use Rattle.reader.specs.LengthLaws.{line_room}
-use Rattle.reader.specs.StretchLaws.{lines_take}
+use Rattle.reader.proofs.LengthLaws.{line_room}
+use Rattle.reader.proofs.StretchLaws.{lines_take}
 use Rattle.reader.proofs.put_refusals.Goals as goal
 use Rattle.reader.proofs.put_refusals.Goals.{then-number-ne0, else-number-ne0}
 use Rattle.reader.proofs.put_refusals.Lts as lts

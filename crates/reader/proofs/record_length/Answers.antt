@@ -7,9 +7,9 @@ use borrow.Author.Tests.{ne_eqb}
 use lib.Dec.{eqb}
 use Rattle.lists.specs.Tests.{pick}
 use Rattle.records.specs.Tags.{Tag, SU, SX, DE, GO, VE, CH, CS, RE, unknown, code, decoded, tag_of}
-use Rattle.records.specs.RecordLaws.{decoded_code}
+use Rattle.records.proofs.RecordLaws.{decoded_code}
 use Rattle.reader.specs.Cutting.{by_batch, length_at, length_of}
-use Rattle.reader.specs.TurnLaws.{none_yet}
+use Rattle.reader.proofs.TurnLaws.{none_yet}
 use Rattle.reader.proofs.record_length.Goals as goal
 use Rattle.reader.proofs.record_length.Lts as lts
 use Rattle.reader.proofs.record_length.Reads as reads

@@ -7,7 +7,7 @@ use Rattle.records.specs.Tags.{response_length}
 use Rattle.run.specs.Runs.{stage_of}
 use Rattle.run.specs.RunLaws.{stage_live}
 use Rattle.reader.specs.Stretches.{most_rows, stretch_of}
-use Rattle.reader.specs.StretchLaws.{rows_elsewhere, rows_few, rows_many}
+use Rattle.reader.proofs.StretchLaws.{rows_elsewhere, rows_few, rows_many}
 use Rattle.reader.proofs.rows_ahead.Goals as goal
 use Rattle.reader.proofs.rows_ahead.Lts as lts
 use Rattle.reader.proofs.rows_ahead.Reads as reads

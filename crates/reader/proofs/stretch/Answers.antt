@@ -9,9 +9,9 @@ use Prim.Native.Nat.{ℕ, ◌+◌, ◌-◌, ◌≤◌}
 use lib.ListN.{length, drop, length-drop}
 use lib.Seq.{drop-drop}
 use Rattle.records.specs.Tags.{code, tag_of}
-use Rattle.bundle.specs.CutLaws.{left_is}
+use Rattle.bundle.proofs.CutLaws.{left_is}
 use Rattle.reader.specs.Stretches.{most_rows, is_row, stretch_of}
-use Rattle.reader.specs.StretchLaws.{stretch_next, stretch_none, empty_none}
+use Rattle.reader.proofs.StretchLaws.{stretch_next, stretch_none, empty_none}
 use Rattle.reader.proofs.stretch.Goals as goal
 use Rattle.reader.proofs.stretch.Lts as lts
 use Rattle.reader.proofs.stretch.Reads as reads

@@ -2,7 +2,7 @@
 use mathlib.Core.Path.{refl}
 use native.Mathlib.Omega.{arith}
 use Rattle.records.specs.Tags.{challenges_length}
-use Rattle.records.specs.RecordLaws.{byte_product}
+use Rattle.records.proofs.RecordLaws.{byte_product}
 use Rattle.records.proofs.challenges_length.Goals as goal
 
 pub overflow_mul-result : goal.overflow_mul-result

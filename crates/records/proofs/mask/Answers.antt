@@ -7,8 +7,8 @@ use Prim.Native.Nat.{ℕ, ◌+◌, ◌*◌, ◌-◌, ◌^◌, ◌≤◌, ◌<◌
 use lib.Pow.{pow-add, pow_mono}
 use Rattle.records.specs.Bytes.{wide_at}
 use Rattle.records.specs.Tags.{mask_at}
-use Rattle.records.specs.RecordLaws.{width_max}
-use Rattle.records.specs.MaskLaws.{wide_next}
+use Rattle.records.proofs.RecordLaws.{width_max}
+use Rattle.records.proofs.MaskLaws.{wide_next}
 use Rattle.records.proofs.mask.Goals as goal
 
 pub loop-i-init : goal.loop-i-init

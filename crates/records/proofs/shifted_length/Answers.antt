@@ -2,7 +2,7 @@
 use borrow.Author.Rules.{rules}
 use native.Mathlib.Omega.{arith}
 use Rattle.records.specs.Tags.{challenges_length, shifted_length}
-use Rattle.records.specs.RecordLaws.{byte_product}
+use Rattle.records.proofs.RecordLaws.{byte_product}
 use Rattle.records.proofs.shifted_length.Goals as goal
 
 pub overflow_add-result : goal.overflow_add-result

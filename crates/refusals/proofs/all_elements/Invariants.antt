@@ -4,7 +4,7 @@ use native.Mathlib.Omega.{arith}
 use mathlib.Core.Path.{◌≡◌, sym, ap, ◌∙◌}
 use Prim.Native.Nat.{◌-◌}
 use Rattle.field.specs.Definitions.{is_element, some_element}
-use Rattle.field.specs.Readings.{element_read}
+use Rattle.field.proofs.Readings.{element_read}
 use Rattle.records.specs.Bytes.{word}
 use Rattle.lists.specs.CallLaws.{Asked, asked_none, asked_more, asked_fails, asked_all}
 use Rattle.refusals.proofs.all_elements.Given as goal

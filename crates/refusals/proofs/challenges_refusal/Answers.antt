@@ -2,7 +2,7 @@
 use borrow.Author.Rules.{rules}
 use native.Mathlib.Omega.{arith}
 use mathlib.Core.Path.{◌∙◌}
-use Rattle.records.specs.RecordLaws.{byte_product}
+use Rattle.records.proofs.RecordLaws.{byte_product}
 use Rattle.refusals.specs.Refusals.{challenges_refusal}
 use Rattle.refusals.proofs.challenges_refusal.Goals as goal
 

@@ -6,7 +6,7 @@ use mathlib.Core.Path.{sym, ap}
 use Prim.Native.Nat.{◌^◌, ◌<◌}
 use lib.Dec.{ltb}
 use lib.Pow.{pow_mono}
-use Rattle.sets.specs.BitLaws.{one_shifted}
+use Rattle.sets.proofs.BitLaws.{one_shifted}
 use Rattle.refusals.specs.Refusals.{mask_fits}
 use Rattle.refusals.proofs.mask_fits.Goals as goal
 

@@ -6,7 +6,7 @@ use borrow.Author.Rules.{rules}
 use borrow.Author.Tests.{le-leb, lt-leb}
 use Rattle.field.specs.declared.Reading.{Reading}
 use Rattle.field.specs.Definitions.{read_element}
-use Rattle.field.specs.Readings.{element_none, identity_one, identity_other}
+use Rattle.field.proofs.Readings.{element_none, identity_one, identity_other}
 use Rattle.records.specs.Bytes.{word}
 use Rattle.lists.specs.TestLaws.{Left, left, test_number, one_fails}
 use Rattle.refusals.specs.Refusals.{setup_refusal}

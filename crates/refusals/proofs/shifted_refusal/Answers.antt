@@ -2,7 +2,7 @@
 use borrow.Author.Rules.{rules}
 use native.Mathlib.Omega.{arith}
 use mathlib.Core.Path.{◌∙◌}
-use Rattle.records.specs.RecordLaws.{byte_product}
+use Rattle.records.proofs.RecordLaws.{byte_product}
 use Rattle.refusals.specs.Refusals.{shifted_refusal}
 use Rattle.refusals.proofs.shifted_refusal.Goals as goal
 

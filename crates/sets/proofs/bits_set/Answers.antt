@@ -4,9 +4,9 @@ use Prim.Native.Nat.{ℕ, ◌+◌}
 use native.Mathlib.Omega.{arith}
 use borrow.Author.Rules.{rules}
 use Rattle.sets.specs.Masks.{has, mask_bits, count}
-use Rattle.sets.specs.MemberLaws.{count_le}
+use Rattle.sets.proofs.MemberLaws.{count_le}
 use Rattle.sets.specs.Lanes.{lane_sum, lower_halves, folded}
-use Rattle.sets.specs.LaneLaws.{fold_sum, lane_whole, count_lanes}
+use Rattle.sets.proofs.LaneLaws.{fold_sum, lane_whole, count_lanes}
 use Rattle.sets.proofs.bits_set.Goals as goal
 
 -- a fold by the lower halves of all lanes, as it was answered

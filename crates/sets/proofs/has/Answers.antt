@@ -6,7 +6,7 @@ use native.Mathlib.Omega.{arith}
 use borrow.Author.Rules.{rules}
 use lib.Bits.{and_mask}
 use lib.Dec.{eqb}
-use Rattle.sets.specs.MaskLaws.{has_none, has_above, has_is}
+use Rattle.sets.proofs.MaskLaws.{has_none, has_above, has_is}
 use Rattle.sets.proofs.has.Goals as goal
 
 pub returns-then-i-eq0 : goal.returns-then-i-eq0

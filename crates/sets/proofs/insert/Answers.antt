@@ -5,8 +5,8 @@ use Prim.Native.Nat.{◌-◌}
 use native.Mathlib.Omega.{arith}
 use borrow.Author.Rules.{rules}
 use lib.Bits.{bit_or}
-use Rattle.sets.specs.BitLaws.{one_shifted}
-use Rattle.sets.specs.MaskLaws.{insert_zero, insert_above, insert_at}
+use Rattle.sets.proofs.BitLaws.{one_shifted}
+use Rattle.sets.proofs.MaskLaws.{insert_zero, insert_above, insert_at}
 use Rattle.sets.proofs.insert.Goals as goal
 
 pub returns-then-i-eq0 : goal.returns-then-i-eq0

@@ -7,8 +7,8 @@ use borrow.Author.Rules.{rules}
 use lib.Pow.{pow_pos}
 use lib.Bits.{bit_and, and_mask}
 use Rattle.sets.specs.Masks.{has, mask_bits, count}
-use Rattle.sets.specs.BitLaws.{one_shifted}
-use Rattle.sets.specs.Sizes.{size_width, size_low}
+use Rattle.sets.proofs.BitLaws.{one_shifted}
+use Rattle.sets.proofs.Sizes.{size_width, size_low}
 use Rattle.sets.proofs.size.Goals as goal
 
 pub returns-then-n-ge-MASK_BITS : goal.returns-then-n-ge-MASK_BITS

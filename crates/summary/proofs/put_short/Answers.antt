@@ -4,13 +4,13 @@ use Prim.Native.Nat.{◌≤◌}
 use native.Mathlib.Omega.{arith}
 use borrow.Author.Rules.{rules}
 use lib.ListN.{length}
-use Rattle.text.specs.TextLaws.{wrote_append}
+use Rattle.text.proofs.TextLaws.{wrote_append}
 use Rattle.run.specs.PartyLaws.{Few}
 use Rattle.closing.specs.Closing.{most_sets, set_lines}
-use Rattle.closing.specs.LengthLaws.{sets_max}
+use Rattle.closing.proofs.LengthLaws.{sets_max}
 use Rattle.summary.specs.Short.{short_lines}
-use Rattle.summary.specs.ShortLaws.{read_few, read_lines}
-use Rattle.summary.specs.CountLaws.{consumed_max}
+use Rattle.summary.proofs.ShortLaws.{read_few, read_lines}
+use Rattle.summary.proofs.CountLaws.{consumed_max}
 use Rattle.summary.proofs.put_short.Goals as goal
 use Rattle.summary.proofs.put_short.Lts as lts
 use Rattle.summary.proofs.put_short.Reads as reads

@@ -11,10 +11,10 @@ use Rattle.run.specs.Steps.{step_of, untaken}
 use Rattle.run.specs.RefusalLaws.{untaken_refused}
 use Rattle.reader.specs.Cutting.{length_of}
 use Rattle.reader.specs.Turns.{next_length, next_record}
-use Rattle.bundle.specs.CutLaws.{left_is}
-use Rattle.reader.specs.TurnLaws.{next_max, next_within}
+use Rattle.bundle.proofs.CutLaws.{left_is}
+use Rattle.reader.proofs.TurnLaws.{next_max, next_within}
 use Rattle.summary.specs.Consumed.{settled, counted_by, counted_length}
-use Rattle.summary.specs.CountLaws.{counted_max}
+use Rattle.summary.proofs.CountLaws.{counted_max}
 use Rattle.summary.proofs.Reading.{Reading, reading_start, reading_next, reading_settled, reading_last}
 use Rattle.summary.proofs.read_on.Given as goal
 

@@ -2,7 +2,7 @@
 use mathlib.Core.Path.{ap, ◌∙◌}
 use borrow.Author.Rules.{rules}
 use Rattle.answers.specs.Answers.{sets_of}
-use Rattle.summary.specs.ReadLaws.{read_enough}
+use Rattle.summary.proofs.ReadLaws.{read_enough}
 use Rattle.summary.proofs.summary_of.Goals as goal
 
 pub returns : goal.returns

@@ -2,7 +2,7 @@
 use Rattle.std.proofs.Common.{ℕ, ◌+◌, ◌*◌, ◌≤◌, List, length, arith}
 use Rattle.text.specs.Texts.{Wrote}
 use Rattle.text.specs.Lines.{line}
-use Rattle.text.specs.LineLaws.{line_max}
+use Rattle.text.proofs.LineLaws.{line_max}
 use Rattle.teller.proofs.put_entry.Goals as goal
 
 -- where a line ends at most

@@ -9,8 +9,8 @@ use lib.ListN.{length, length-append}
 use Rattle.lists.specs.Tests.{pick}
 use Rattle.text.specs.Lines.{decimal}
 use Rattle.text.specs.Texts.{Wrote}
-use Rattle.text.specs.TextLaws.{wrote_none, wrote_length, wrote_byte, wrote_append}
-use Rattle.text.specs.LineLaws.{decimal_last, decimal_max}
+use Rattle.text.proofs.TextLaws.{wrote_none, wrote_length, wrote_byte, wrote_append}
+use Rattle.text.proofs.LineLaws.{decimal_last, decimal_max}
 use Rattle.text.proofs.+put_decimal.Goals as goal
 use Rattle.text.proofs.+put_decimal.Goals.{then-n-ge10, else-n-ge10}
 

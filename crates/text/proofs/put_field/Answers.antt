@@ -4,7 +4,7 @@ use native.Mathlib.Omega.{arith}
 use borrow.Author.Rules.{rules}
 use lib.ListN.{length-set}
 use Rattle.text.specs.Lines.{field}
-use Rattle.text.specs.TextLaws.{wrote_byte, wrote_append}
+use Rattle.text.proofs.TextLaws.{wrote_byte, wrote_append}
 use Rattle.text.proofs.put_field.Goals as goal
 
 pub put_decimal-requires : goal.put_decimal-requires

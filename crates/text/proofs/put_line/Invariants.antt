@@ -7,8 +7,8 @@ use lib.ListN.{length, take, length-take, length-set}
 use lib.Seq.{take-length}
 use Rattle.text.specs.Lines.{fields, line}
 use Rattle.text.specs.Texts.{Wrote}
-use Rattle.text.specs.TextLaws.{wrote_none, wrote_length, wrote_byte, wrote_append}
-use Rattle.text.specs.LineLaws.{fields_take, fields_max}
+use Rattle.text.proofs.TextLaws.{wrote_none, wrote_length, wrote_byte, wrote_append}
+use Rattle.text.proofs.LineLaws.{fields_take, fields_max}
 use Rattle.text.proofs.put_line.Given as goal
 
 abbrev pub invariant-loop-i : goal.invariant-loop-i

@@ -9,7 +9,7 @@ use borrow.Author.Rules.{rules}
 use lib.ListN.{length, take, set, get_or}
 use lib.Seq.{take-suc, take-length}
 use Rattle.text.specs.Texts.{Wrote}
-use Rattle.text.specs.TextLaws.{wrote_none, wrote_length, wrote_byte, wrote_append}
+use Rattle.text.proofs.TextLaws.{wrote_none, wrote_length, wrote_byte, wrote_append}
 use Rattle.text.proofs.put_text.Goals as goal
 
 -- one byte more

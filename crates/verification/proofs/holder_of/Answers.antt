@@ -5,7 +5,7 @@ use mathlib.Core.Path.{◌≡◌, sym, ap, ap₂, ◌∙◌}
 use Prim.Native.Nat.{ℕ}
 use Rattle.field.specs.declared.Element.{Element}
 use Rattle.interpolation.specs.Definitions.{party, committed_point}
-use Rattle.interpolation.specs.PointLaws.{party_is}
+use Rattle.interpolation.proofs.PointLaws.{party_is}
 use Rattle.rows.specs.declared.Row.{Row}
 use Rattle.rows.specs.Definitions.{listed, weights_of}
 use Rattle.parameters.specs.ParameterLaws.{bounds_of, quorum_max}

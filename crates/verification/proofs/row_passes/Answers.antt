@@ -14,9 +14,9 @@ use Rattle.field.specs.declared.Element.{Element}
 use Rattle.parameters.specs.Definitions.{quorum, stride}
 use Rattle.parameters.specs.ParameterLaws.{Bounds, bounds_of, quorum_max}
 use Rattle.combination.specs.Combination.{powers_at}
-use Rattle.combination.specs.PowerLaws.{powers_none, powers_for}
+use Rattle.combination.proofs.PowerLaws.{powers_none, powers_for}
 use Rattle.combination.specs.Tables.{table_to}
-use Rattle.combination.specs.TableLaws.{table_none, table_more}
+use Rattle.combination.proofs.TableLaws.{table_none, table_more}
 use Rattle.dealing.specs.declared.Dealings.{Dealings}
 use Rattle.complaint.specs.declared.Complaints.{Complaints}
 use Rattle.complaint.specs.Definitions.{unblamed}

@@ -17,7 +17,7 @@ use Rattle.chains.specs.Definitions.{chain_value}
 use Rattle.interpolation.specs.Definitions.{party, committed_point}
 use Rattle.rows.specs.declared.Row.{Row}
 use Rattle.rows.specs.Definitions.{listed, weights_of, sum_of, product_of}
-use Rattle.rows.specs.TurnLaws.{first, product_none, product_next}
+use Rattle.rows.proofs.TurnLaws.{first, product_none, product_next}
 use Rattle.parameters.specs.Definitions.{most_parties, quorum, stride}
 use Rattle.parameters.specs.ParameterLaws.{bounds_of, quorum_max}
 use Rattle.records.specs.Bytes.{word, sender}
@@ -27,7 +27,7 @@ use Rattle.arrays.specs.Arrays.{commitment_in}
 use Rattle.arrays.specs.ArrayLaws.{elements_length}
 use Rattle.combination.specs.Combination.{combined_value}
 use Rattle.combination.specs.Tables.{values_at, table_to}
-use Rattle.combination.specs.TableLaws.{value_at}
+use Rattle.combination.proofs.TableLaws.{value_at}
 use Rattle.dealing.specs.declared.Dealings.{Dealings}
 use Rattle.complaint.specs.declared.Complaints.{Complaints}
 use Rattle.complaint.specs.Definitions.{unblamed}

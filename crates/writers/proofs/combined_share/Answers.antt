@@ -13,7 +13,7 @@ use Rattle.lists.specs.TestLaws.{pick_case}
 use Rattle.sets.specs.Masks.{has}
 use Rattle.field.specs.declared.Scalar.{Scalar}
 use Rattle.field.specs.Definitions.{scalar, IsScalar, plus, times}
-use Rattle.field.specs.ScalarLaws.{zero_range, plus_range, plus_zero, times_range}
+use Rattle.field.proofs.ScalarLaws.{zero_range, plus_range, plus_zero, times_range}
 use Rattle.protocol.specs.Transcript.{coefficient}
 use Rattle.writers.specs.Writers.{combined_share}
 use Rattle.writers.proofs.combined_share.Goals as goal

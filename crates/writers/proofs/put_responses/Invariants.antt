@@ -11,10 +11,10 @@ use Rattle.field.specs.declared.Scalar.{Scalar}
 use Rattle.field.specs.Definitions.{scalar, plus, times}
 use Rattle.rows.specs.declared.Row.{Row}
 use Rattle.interpolation.specs.Definitions.{point, party, slot}
-use Rattle.interpolation.specs.PointLaws.{party_is}
+use Rattle.interpolation.proofs.PointLaws.{party_is}
 use Rattle.rows.specs.Definitions.{listed, weights_of, sum_of}
 use Rattle.encoding.specs.Bytes.{fours}
-use Rattle.encoding.specs.StoreLaws.{Put, put_none, put_next}
+use Rattle.encoding.proofs.StoreLaws.{Put, put_none, put_next}
 use Rattle.protocol.specs.Transcript.{challenge_at}
 use Rattle.arrays.specs.Arrays.{challenge_in, scalars}
 use Rattle.arrays.specs.ArrayLaws.{scalars_interpolated}
@@ -24,7 +24,7 @@ use Rattle.run.specs.Runs.{well_formed, transcript_of}
 use Rattle.run.specs.RunLaws.{formed_of}
 use Rattle.answers.specs.Answers.{unblamed_of}
 use Rattle.writers.specs.Writers.{combined_share, response_for}
-use Rattle.writers.specs.WriterLaws.{qual_is}
+use Rattle.writers.proofs.WriterLaws.{qual_is}
 use Rattle.writers.proofs.put_responses.Given as goal
 
 -- the response number for u, as the code works it out

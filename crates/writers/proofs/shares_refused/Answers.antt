@@ -17,7 +17,7 @@ use Rattle.run.specs.declared.Run.{Run}
 use Rattle.run.specs.Runs.{transcript_of}
 use Rattle.answers.specs.Answers.{unblamed_of}
 use Rattle.writers.specs.Writers.{shares_refused}
-use Rattle.writers.specs.WriterLaws.{qual_is}
+use Rattle.writers.proofs.WriterLaws.{qual_is}
 use Rattle.writers.proofs.shares_refused.Goals as goal
 use Rattle.writers.proofs.shares_refused.Lts as lts
 use Rattle.writers.proofs.shares_refused.Reads as reads

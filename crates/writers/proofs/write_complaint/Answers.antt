@@ -8,14 +8,14 @@ use borrow.Author.Tests.{ne_eqb}
 use lib.ListN.{length, length-set}
 use Rattle.sets.specs.Masks.{mask_of}
 use Rattle.records.specs.Tags.{letter_e, letter_v, mask_width, complaint_length}
-use Rattle.records.specs.RecordLaws.{width_max}
+use Rattle.records.proofs.RecordLaws.{width_max}
 use Rattle.encoding.specs.Bytes.{bytes_of}
-use Rattle.encoding.specs.ByteLaws.{length_bytes}
-use Rattle.encoding.specs.StoreLaws.{sets_whole}
+use Rattle.encoding.proofs.ByteLaws.{length_bytes}
+use Rattle.encoding.proofs.StoreLaws.{sets_whole}
 use Rattle.dealing.specs.Definitions.{may_blame}
 use Rattle.run.specs.RunLaws.{formed_of}
 use Rattle.writers.specs.Writers.{complaint_bytes}
-use Rattle.writers.specs.WriterLaws.{ComplaintFits, complaint_fits}
+use Rattle.writers.proofs.WriterLaws.{ComplaintFits, complaint_fits}
 use Rattle.writers.proofs.write_complaint.Goals as goal
 use Rattle.writers.proofs.write_complaint.Lts as lts
 use Rattle.writers.proofs.write_complaint.Reads as reads

@@ -8,10 +8,10 @@ use borrow.Author.Tests.{ne_eqb}
 use lib.ListN.{length, length-set}
 use Rattle.records.specs.Tags.{letter_e, letter_r, response_length}
 use Rattle.encoding.specs.Bytes.{fours}
-use Rattle.encoding.specs.ByteLaws.{length_fours}
-use Rattle.encoding.specs.StoreLaws.{sets_whole}
+use Rattle.encoding.proofs.ByteLaws.{length_fours}
+use Rattle.encoding.proofs.StoreLaws.{sets_whole}
 use Rattle.writers.specs.Writers.{response_for, response_bytes}
-use Rattle.writers.specs.WriterLaws.{ResponseFits, response_fits}
+use Rattle.writers.proofs.WriterLaws.{ResponseFits, response_fits}
 use Rattle.writers.proofs.write_response.Goals as goal
 use Rattle.writers.proofs.write_response.Lts as lts
 use Rattle.writers.proofs.write_response.Reads as reads

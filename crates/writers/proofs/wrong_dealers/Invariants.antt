@@ -9,7 +9,7 @@ use borrow.Author.Rules.{rules}
 use lib.ListN.{get_or}
 use Rattle.lists.specs.Tests.{pick}
 use Rattle.sets.specs.Masks.{has, insert, mask_of}
-use Rattle.sets.specs.MaskLaws.{mask_of_insert}
+use Rattle.sets.proofs.MaskLaws.{mask_of_insert}
 use Rattle.dealing.specs.Definitions.{may_blame}
 use Rattle.writers.proofs.wrong_dealers.Given as goal
 

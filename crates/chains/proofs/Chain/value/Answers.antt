@@ -10,7 +10,7 @@ use Rattle.lists.specs.StoreLaws.{get_d_default}
 use Rattle.field.specs.declared.Element.{Element}
 use Rattle.field.specs.Definitions.{element, identity, product}
 use Rattle.chains.specs.Definitions.{most_digits, value_from, chain_value}
-use Rattle.chains.specs.ChainLaws.{value_next}
+use Rattle.chains.proofs.ChainLaws.{value_next}
 use Rattle.chains.proofs.Chain.value.Goals as goal
 
 pub loop-i-init : goal.loop-i-init

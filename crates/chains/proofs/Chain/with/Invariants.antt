@@ -7,9 +7,9 @@ use Prim.Native.Nat.{ℕ, ◌-◌, ◌/◌, ◌^◌, ◌≤◌}
 use lib.ListN.{length, length-map, set}
 use Rattle.field.specs.declared.Element.{Element}
 use Rattle.field.specs.Definitions.{element, identity, product}
-use Rattle.field.specs.ElementLaws.{raise_powered}
+use Rattle.field.proofs.ElementLaws.{raise_powered}
 use Rattle.chains.specs.Definitions.{most_digits, value_from, chain_value}
-use Rattle.chains.specs.ChainLaws.{left_none, left_next, powers_of, powers_of_is, multiplied, multiplied_none, multiplied_next, multiplied_value}
+use Rattle.chains.proofs.ChainLaws.{left_none, left_next, powers_of, powers_of_is, multiplied, multiplied_none, multiplied_next, multiplied_value}
 use Rattle.chains.proofs.Chain.with.Given as goal
 
 abbrev pub invariant-loop-d : goal.invariant-loop-d

@@ -1,7 +1,7 @@
 -- `Challenges::loaded` meets its contract. Assumes nothing.
 use borrow.Author.Rules.{rules}
 use native.Mathlib.Omega.{arith}
-use Rattle.records.specs.RecordLaws.{byte_product}
+use Rattle.records.proofs.RecordLaws.{byte_product}
 use Rattle.challenge.specs.Definitions.{challenges_from}
 use Rattle.challenge.proofs.Challenges.loaded.Goals as goal
 

@@ -6,7 +6,7 @@ use mathlib.Core.Path.{◌≡◌, sym, ◌∙◌}
 use mathlib.Core.Bool.{true, false}
 use lib.Dec.{eqb, ltb}
 use Rattle.field.specs.Definitions.{P, q, power_of, reading_of, read_element}
-use Rattle.field.specs.Readings.{read_identity}
+use Rattle.field.proofs.Readings.{read_identity}
 use borrow.Author.Rules.{rules}
 use Rattle.field.proofs.Element.read.Goals as goal
 

@@ -6,8 +6,8 @@ use mathlib.Core.Path.{◌≡◌, ◌∙◌, ap, sym}
 use Prim.Native.Nat.{ℕ, ◌*◌, ◌%◌, ◌-◌, ◌/◌, ◌<◌}
 use Rattle.field.specs.declared.Scalar.{Scalar}
 use Rattle.field.specs.Definitions.{q, scalar, times, inverse_of, inverse}
-use Rattle.field.specs.CongruenceLaws.{mod_mul_mod, mul_mod_mod, same}
-use Rattle.field.specs.ScalarLaws.{inverse_small, inverse_step, inverse_lt}
+use Rattle.field.proofs.CongruenceLaws.{mod_mul_mod, mul_mod_mod, same}
+use Rattle.field.proofs.ScalarLaws.{inverse_small, inverse_step, inverse_lt}
 use Rattle.field.proofs.Scalar.inverse.Goals as goal
 
 pub loop-left-init : goal.loop-left-init

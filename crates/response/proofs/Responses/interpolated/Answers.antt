@@ -3,8 +3,8 @@ use borrow.Author.Rules.{rules}
 use native.Mathlib.Omega.{arith}
 use mathlib.Core.Path.{◌∙◌, ◌≡◌, sym}
 use Rattle.interpolation.specs.Definitions.{slot}
-use Rattle.rows.specs.BasisLaws.{weights_by_is}
-use Rattle.interpolation.specs.PointLaws.{slot_is}
+use Rattle.rows.proofs.BasisLaws.{weights_by_is}
+use Rattle.interpolation.proofs.PointLaws.{slot_is}
 use Rattle.arrays.specs.ArrayLaws.{members_interpolated}
 use Rattle.response.specs.Definitions.{phi_of}
 use Rattle.response.proofs.Responses.interpolated.Goals as goal

@@ -6,7 +6,7 @@ use borrow.Author.Rules.{rules}
 use mathlib.Core.Path.{◌≡◌, sym, ◌∙◌}
 use Rattle.lists.specs.Tests.{require}
 use Rattle.response.specs.Definitions.{response_number}
-use Rattle.response.specs.ResponseLaws.{found_untested, left_tested}
+use Rattle.response.proofs.ResponseLaws.{found_untested, left_tested}
 use Rattle.response.proofs.Responses.number.Goals as goal
 use Rattle.response.proofs.Responses.number.Lts as lts
 use Rattle.response.proofs.Responses.number.Reads as reads

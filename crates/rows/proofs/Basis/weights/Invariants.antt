@@ -6,11 +6,11 @@ use Prim.Native.Nat.{ℕ, ◌-◌, ◌≤◌}
 use Rattle.field.specs.declared.Scalar.{Scalar}
 use Rattle.field.specs.Definitions.{times}
 use Rattle.rows.specs.declared.Row.{Row}
-use Rattle.interpolation.specs.WeightLaws.{differences}
+use Rattle.interpolation.proofs.WeightLaws.{differences}
 use Rattle.rows.specs.Definitions.{size, nth, weights_by}
-use Rattle.rows.specs.RowLaws.{listed_cong}
-use Rattle.rows.specs.BasisLaws.{differences_split}
-use Rattle.rows.specs.RowLaws.{front, front_none, front_next, front_row}
+use Rattle.rows.proofs.RowLaws.{listed_cong}
+use Rattle.rows.proofs.BasisLaws.{differences_split}
+use Rattle.rows.proofs.RowLaws.{front, front_none, front_next, front_row}
 use Rattle.rows.proofs.Basis.weights.Given as goal
 
 -- weight k as the loop makes it

@@ -5,7 +5,7 @@ use mathlib.Core.Path.{◌≡◌, ap, sym}
 use Prim.Native.Nat.{◌-◌, ◌≤◌}
 use Rattle.rows.specs.declared.Row.{Row}
 use Rattle.rows.specs.Definitions.{size, nth, scale, basis_of}
-use Rattle.rows.specs.RowLaws.{front, front_none, front_next, front_row}
+use Rattle.rows.proofs.RowLaws.{front, front_none, front_next, front_row}
 use Rattle.rows.proofs.Row.basis.Given as goal
 
 abbrev pub invariant-loop-i : goal.invariant-loop-i

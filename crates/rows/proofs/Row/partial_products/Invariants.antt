@@ -7,7 +7,7 @@ use Rattle.algebra.specs.FoldLaws.{fold_zero, fold_next}
 use Rattle.field.specs.Definitions.{scalar, minus, times}
 use Rattle.rows.specs.Definitions.{size, nth}
 use Rattle.rows.specs.BasisLaws.{partial_product, partial_products}
-use Rattle.rows.specs.RowLaws.{front, front_none, front_next, front_row}
+use Rattle.rows.proofs.RowLaws.{front, front_none, front_next, front_row}
 use Rattle.rows.proofs.Row.partial_products.Given as goal
 
 abbrev pub invariant-loop-i : goal.invariant-loop-i

@@ -10,8 +10,8 @@ use Rattle.field.specs.Definitions.{scalar, element, raise, product as multiply}
 use Rattle.chains.specs.Definitions.{chain_value}
 use Rattle.rows.specs.declared.Row.{Row}
 use Rattle.rows.specs.Definitions.{most_scalars, size, product_of}
-use Rattle.rows.specs.RowLaws.{size_max}
-use Rattle.rows.specs.TurnLaws.{first, product_none, product_next, product_all}
+use Rattle.rows.proofs.RowLaws.{size_max}
+use Rattle.rows.proofs.TurnLaws.{first, product_none, product_next, product_all}
 use Rattle.rows.proofs.Row.product.Goals as goal
 
 pub loop-i-init : goal.loop-i-init

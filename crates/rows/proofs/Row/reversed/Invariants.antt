@@ -5,7 +5,7 @@ use mathlib.Core.Path.{◌≡◌, sym}
 use Prim.Native.Nat.{◌-◌, ◌≤◌}
 use Rattle.rows.specs.Definitions.{size, nth}
 use Rattle.rows.specs.BasisLaws.{reversed}
-use Rattle.rows.specs.RowLaws.{front, front_none, front_next, front_row}
+use Rattle.rows.proofs.RowLaws.{front, front_none, front_next, front_row}
 use Rattle.rows.proofs.Row.reversed.Given as goal
 
 abbrev pub invariant-loop-i : goal.invariant-loop-i

@@ -5,9 +5,9 @@ use mathlib.Core.Logic.{⊎_elim}
 use mathlib.Core.Path.{◌≡◌, ◌∙◌, ap₂, sym}
 use Prim.Native.Nat.{◌+◌, ◌-◌, ◌≤◌}
 use Rattle.field.specs.Definitions.{times}
-use Rattle.interpolation.specs.WeightLaws.{differences}
+use Rattle.interpolation.proofs.WeightLaws.{differences}
 use Rattle.rows.specs.Definitions.{size, nth, scale}
-use Rattle.interpolation.specs.WeightLaws.{differences_none, differences_skip, differences_take}
+use Rattle.interpolation.proofs.WeightLaws.{differences_none, differences_skip, differences_take}
 use Rattle.rows.proofs.Row.scale.Given as goal
 
 abbrev pub invariant-loop-l : goal.invariant-loop-l

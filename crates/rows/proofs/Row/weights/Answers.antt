@@ -3,7 +3,7 @@ use borrow.Author.Rules.{rules}
 use mathlib.Core.Path.{◌∙◌, ap}
 use Rattle.rows.specs.declared.Basis.{Basis}
 use Rattle.rows.specs.Definitions.{weights_by}
-use Rattle.rows.specs.BasisLaws.{weights_by_is}
+use Rattle.rows.proofs.BasisLaws.{weights_by_is}
 use Rattle.rows.proofs.Row.weights.Goals as goal
 
 pub returns : goal.returns

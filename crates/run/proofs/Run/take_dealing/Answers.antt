@@ -4,7 +4,7 @@ use native.Mathlib.Omega.{arith}
 use mathlib.Core.Path.{ap, ap₂, sym, ◌∙◌}
 use Rattle.lists.specs.TestLaws.{or_next_zero}
 use Rattle.parameters.specs.ParameterLaws.{bounds_test}
-use Rattle.refusals.specs.RefusalLaws.{dealing_passed}
+use Rattle.refusals.proofs.RefusalLaws.{dealing_passed}
 use Rattle.stages.specs.Definitions.{dealing_stage}
 use Rattle.dealing.specs.declared.Dealings.{Dealings}
 use Rattle.dealing.specs.Definitions.{dealing_number, with_dealing}

@@ -5,7 +5,7 @@ use mathlib.Core.Bool.{true, false}
 use Prim.Native.Nat.{◌-◌}
 use native.Mathlib.Omega.{arith}
 use Rattle.parameters.specs.Definitions.{batch}
-use Rattle.refusals.specs.RefusalLaws.{setup_passed}
+use Rattle.refusals.proofs.RefusalLaws.{setup_passed}
 use Rattle.dealing.specs.declared.Setup.{Setup}
 use Rattle.dealing.specs.Definitions.{setup_of, begun_batch}
 use Rattle.run.specs.Runs.{begun}

@@ -1,0 +1,6 @@
+pub mod ExponentialLaws
+pub mod PointLaws
+pub mod PolynomialLaws
+pub mod ProductLaws
+pub mod StructureLaws
+pub mod WeightLaws

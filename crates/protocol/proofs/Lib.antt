@@ -1,0 +1,4 @@
+pub mod AlikeLaws
+pub mod ProductLaws
+pub mod ShiftLaws
+pub mod Signature

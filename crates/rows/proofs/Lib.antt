@@ -1,0 +1,3 @@
+pub mod BasisLaws
+pub mod RowLaws
+pub mod TurnLaws
