@@ -1,10 +1,9 @@
 -- What the key of a run is past stage 0. Assumes nothing.
-use Rattle.std.specs.Prelude.{◌≡◌, ◌≢◌, List, ℕ, ◌<◌}
-use Rattle.std.proofs.Common.{ap, arith}
-use Rattle.field.specs.declared.Element.{Element}
+use Rattle.std.specs.Prelude.{◌≡◌, List, ℕ, ◌<◌}
+use Rattle.std.proofs.Common.{arith}
 use Rattle.field.specs.declared.Reading.TheVariants.{Other}
-use Rattle.field.specs.Definitions.{identity, read_element}
-use Rattle.field.proofs.Readings.{read_other, other_by}
+use Rattle.field.specs.Definitions.{read_element}
+use Rattle.field.proofs.Readings.{other_by}
 use Rattle.dealing.specs.Definitions.{key_in}
 use Rattle.verification.specs.Definitions.{transcript}
 use Rattle.run.specs.Runs.{stage_of, transcript_of}

@@ -1,16 +1,12 @@
 -- Past stage 0 the key S of a run is an element other than the identity, whatever the records. Assumes nothing.
 use Rattle.std.specs.Prelude.{◌≡◌, ◌≢◌, List, ℕ, ◌<◌}
-use Rattle.std.proofs.Common.{ap, arith}
+use Rattle.std.proofs.Common.{ap}
 use Rattle.field.specs.declared.Element.{Element}
 use Rattle.field.specs.declared.Reading.TheVariants.{Other}
 use Rattle.field.specs.Definitions.{identity, read_element}
-use Rattle.field.proofs.Readings.{read_other, other_by}
-use Rattle.dealing.specs.Definitions.{key_in}
-use Rattle.verification.specs.Definitions.{transcript}
+use Rattle.field.proofs.Readings.{read_other}
 use Rattle.run.specs.Runs.{stage_of, transcript_of}
 use Rattle.run.specs.Steps.{after}
-use Rattle.promises.proofs.InvariantLaws.{key_element, key_apart}
-use Rattle.promises.proofs.MadeLaws.{made_stage, made_live}
 use Rattle.promises.proofs.KeyLaws.{key_away}
 
 -- After every list of records.

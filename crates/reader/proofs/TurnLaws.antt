@@ -1,5 +1,5 @@
 -- The laws that tie the turns to the records of a log. Assumes nothing.
-use Rattle.std.specs.Prelude.{◌≡◌, refl, Bool, true, false, ◌≢◌, List, [], ◌∷◌, ◌++◌, ℕ, zero, suc, ◌+◌, ◌-◌, ◌≤◌, ◌<◌, length, take, drop, eqb, leb}
+use Rattle.std.specs.Prelude.{◌≡◌, refl, Bool, true, false, ◌≢◌, List, [], ◌∷◌, ◌++◌, ℕ, zero, suc, ◌+◌, ◌≤◌, ◌<◌, length, take, drop, eqb, leb}
 use Rattle.std.proofs.Common.{ap, arith, length-drop, length-take-le, get_or-take, leb-true, eq-eqb, ne_eqb, le-ltb}
 use Rattle.std.proofs.Math.Seq.{take-length, drop-length}
 use Rattle.lists.specs.Tests.{pick}

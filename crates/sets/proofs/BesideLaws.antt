@@ -1,12 +1,8 @@
 -- Masks side by side are counted apart. Assumes nothing.
-use Rattle.std.specs.Prelude.{◌≡◌, ℕ, zero, suc, ◌+◌, ◌-◌, ◌*◌, ◌/◌, ◌%◌, ◌^◌, ◌≤◌, ◌<◌}
-use Rattle.std.proofs.Common.{sym, ap, ap₂, ◌∙◌, arith, zero-add, add-zero, suc-add, pow-suc, zero-mul, mod-lt, pow_pos}
-use Rattle.std.proofs.Math.Pow.{split}
+use Rattle.std.specs.Prelude.{◌≡◌, ℕ, zero, suc, ◌+◌, ◌*◌, ◌/◌, ◌^◌, ◌<◌}
+use Rattle.std.proofs.Common.{sym, ap₂, ◌∙◌, arith, zero-add, suc-add, pow-suc}
 use Rattle.std.specs.Int.Bits.{block_half, block_odd}
-use Rattle.std.specs.Int.Count.{ones, ones_step}
-use Rattle.sets.specs.Masks.{has, members_from, count}
-use Rattle.sets.proofs.MaskLaws.{has_zero}
-use Rattle.sets.proofs.MemberLaws.{no_members}
+use Rattle.sets.specs.Masks.{has, count}
 use Rattle.sets.specs.Lanes.{lane_sum}
 use Rattle.sets.proofs.LaneLaws.{count_lanes}
 
@@ -21,4 +17,3 @@ bits_beside (suc w) v high low l =
 -- a mask of w + v bits is one of w bits and one of v bits side by side
 pub beside : (w v high low : ℕ) → low < 2 ^ w → count (w + v) (has (high * 2 ^ w + low)) ≡ count w (has low) + count v (has high)
 beside w v high low l = count_lanes (w + v) (high * 2 ^ w + low) ∙ bits_beside w v high low l ∙ sym (ap₂ ◌+◌ (count_lanes w low) (count_lanes v high))
-

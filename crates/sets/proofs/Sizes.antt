@@ -1,9 +1,8 @@
 -- The size of a set, over the width of its mask: two masks side by side are counted apart; a mask of n bits has no member above n, so that the parties
 -- to n and those of a whole word are as many; and the size is the number of set bits. Assumes nothing.
 use Rattle.std.specs.Prelude.{◌≡◌, ℕ, zero, suc, ◌+◌, ◌-◌, ◌*◌, ◌/◌, ◌%◌, ◌^◌, ◌≤◌, ◌<◌}
-use Rattle.std.proofs.Common.{sym, ap, ap₂, ◌∙◌, arith, zero-add, add-zero, suc-add, pow-suc, zero-mul, mod-lt, pow_pos}
+use Rattle.std.proofs.Common.{sym, ap, ap₂, ◌∙◌, arith, add-zero, pow-suc, zero-mul, mod-lt, pow_pos}
 use Rattle.std.proofs.Math.Pow.{split}
-use Rattle.std.specs.Int.Bits.{block_half, block_odd}
 use Rattle.std.specs.Int.Count.{ones, ones_step}
 use Rattle.sets.specs.Masks.{has, members_from, count}
 use Rattle.sets.proofs.MaskLaws.{has_zero}

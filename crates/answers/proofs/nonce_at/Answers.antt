@@ -14,7 +14,6 @@ use Rattle.verification.specs.Definitions.{transcript}
 use Rattle.run.specs.Runs.{stage_of, transcript_of}
 use Rattle.run.specs.RunLaws.{formed_of, stage_live}
 use Rattle.answers.specs.Answers.{nonce_of}
-use borrow.Author.Rules.{rules}
 use Rattle.answers.proofs.nonce_at.Goals as goal
 use Rattle.answers.proofs.nonce_at.Lts as lts
 use Rattle.answers.proofs.nonce_at.Reads as reads

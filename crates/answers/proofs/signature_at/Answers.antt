@@ -1,7 +1,6 @@
 -- `signature_at` meets its contract: the number that is kept at the place of (u,k), which is among the kept ones. Assumes nothing.
 use mathlib.Core.Path.{ap}
 use mathlib.Core.Bool.{not}
-use borrow.Author.Rules.{rules}
 use borrow.Author.Tests.{leb-true, eq-eqb}
 use native.Mathlib.Omega.{arith}
 use native.Mathlib.Nat.{mul_comm}

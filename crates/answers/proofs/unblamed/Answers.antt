@@ -1,5 +1,4 @@
 -- `unblamed` meets its contract. Assumes nothing.
-use borrow.Author.Rules.{rules}
 use Rattle.answers.specs.Answers.{unblamed_of}
 use Rattle.answers.proofs.unblamed.Goals as goal
 

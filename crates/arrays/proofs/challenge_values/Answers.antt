@@ -1,17 +1,15 @@
 -- `challenge_values` meets its contract. The loop has stored the challenges passed. Assumes nothing.
-use borrow.Author.Rules.{rules}
 use native.Mathlib.Omega.{arith}
 use native.Mathlib.Nat.{mul-le-mul}
-use mathlib.Core.Logic.{⊎_elim}
 use mathlib.Core.Path.{◌≡◌, sym, ap, ap₂, ◌∙◌}
-use Prim.Native.Nat.{ℕ, ◌+◌, ◌-◌, ◌*◌, ◌≤◌, min}
+use Prim.Native.Nat.{ℕ, ◌+◌, ◌*◌, ◌≤◌}
 use lib.ListN.{length, get_or, get_or-eq_default}
 use Rattle.field.specs.declared.Scalar.{Scalar}
 use Rattle.lists.specs.StoreLaws.{stored_none}
 use Rattle.field.specs.Definitions.{scalar}
 use Rattle.parameters.specs.Definitions.{cells}
 use Rattle.arrays.specs.Arrays.{cell, challenge_in, scalars}
-use Rattle.arrays.specs.LoopLaws.{front, front_next, front_capped}
+use Rattle.arrays.specs.LoopLaws.{front_next, front_capped}
 use Rattle.arrays.proofs.challenge_values.Goals as goal
 use Rattle.arrays.proofs.challenge_values.Goals.{then-at-lt-CELLS, else-at-lt-CELLS}
 use Rattle.arrays.proofs.challenge_values.Lts as lts

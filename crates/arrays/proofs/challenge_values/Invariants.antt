@@ -1,17 +1,9 @@
 -- `challenge_values` meets its contract. The loop has stored the challenges passed. Assumes nothing.
-use borrow.Author.Rules.{rules}
-use native.Mathlib.Omega.{arith}
-use native.Mathlib.Nat.{mul-le-mul}
-use mathlib.Core.Logic.{⊎_elim}
-use mathlib.Core.Path.{◌≡◌, sym, ap, ap₂, ◌∙◌}
-use Prim.Native.Nat.{ℕ, ◌+◌, ◌-◌, ◌*◌, ◌≤◌, min}
-use lib.ListN.{length, get_or, get_or-eq_default}
-use Rattle.field.specs.declared.Scalar.{Scalar}
-use Rattle.lists.specs.StoreLaws.{stored_none}
+use mathlib.Core.Path.{◌≡◌}
+use Prim.Native.Nat.{◌+◌, ◌-◌, ◌*◌, ◌≤◌, min}
 use Rattle.field.specs.Definitions.{scalar}
-use Rattle.parameters.specs.Definitions.{cells}
-use Rattle.arrays.specs.Arrays.{cell, challenge_in, scalars}
-use Rattle.arrays.specs.LoopLaws.{front, front_next, front_capped}
+use Rattle.arrays.specs.Arrays.{challenge_in}
+use Rattle.arrays.specs.LoopLaws.{front}
 use Rattle.arrays.proofs.challenge_values.Given as goal
 
 abbrev pub invariant-loop-v : goal.invariant-loop-v

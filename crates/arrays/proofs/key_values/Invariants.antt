@@ -1,16 +1,9 @@
 -- `key_values` meets its contract. The loop has stored the values passed. Assumes nothing.
-use borrow.Author.Rules.{rules}
-use native.Mathlib.Omega.{arith}
-use mathlib.Core.Logic.{⊎_elim}
-use mathlib.Core.Path.{◌≡◌, sym, ap, ◌∙◌}
-use Prim.Native.Nat.{ℕ, ◌+◌, ◌-◌, ◌≤◌, min}
-use lib.ListN.{length, get_or, get_or-eq_default}
-use Rattle.lists.specs.StoreLaws.{stored_none, get_d_default}
-use Rattle.field.specs.declared.Element.{Element}
+use mathlib.Core.Path.{◌≡◌}
+use Prim.Native.Nat.{◌+◌, ◌-◌, ◌≤◌, min}
+use lib.ListN.{get_or}
 use Rattle.field.specs.Definitions.{identity}
-use Rattle.parameters.specs.Definitions.{most_parties}
-use Rattle.arrays.specs.Arrays.{elements}
-use Rattle.arrays.specs.LoopLaws.{front, front_next, front_capped}
+use Rattle.arrays.specs.LoopLaws.{front}
 use Rattle.arrays.proofs.key_values.Given as goal
 
 abbrev pub invariant-loop-v : goal.invariant-loop-v

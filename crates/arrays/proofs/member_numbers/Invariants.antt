@@ -1,18 +1,13 @@
 -- `member_numbers` meets its contract. The loop has stored the numbers of the members passed. Assumes nothing.
-use borrow.Author.Rules.{rules}
-use native.Mathlib.Omega.{arith}
-use mathlib.Core.Logic.{⊎_elim}
-use mathlib.Core.Path.{◌≡◌, sym, ap, ◌∙◌}
+use mathlib.Core.Path.{◌≡◌}
 use mathlib.Core.List.{List}
-use Prim.Native.Nat.{ℕ, ◌+◌, ◌-◌, ◌*◌, ◌≤◌, ◌<◌}
-use lib.ListN.{length, get_or, get_or-eq_default}
-use Rattle.sets.specs.Masks.{has, members}
-use Rattle.sets.proofs.MemberLaws.{count_before}
+use Prim.Native.Nat.{ℕ, ◌+◌, ◌-◌, ◌≤◌}
+use lib.ListN.{get_or}
+use Rattle.sets.specs.Masks.{has}
 use Rattle.field.specs.declared.Scalar.{Scalar}
 use Rattle.field.specs.Definitions.{scalar}
-use Rattle.parameters.specs.Definitions.{stride, places}
-use Rattle.arrays.specs.Arrays.{base, member_numbers, scalars}
-use Rattle.arrays.specs.LoopLaws.{chosen, Passed, passed_none, passed_skip, passed_take}
+use Rattle.arrays.specs.Arrays.{base}
+use Rattle.arrays.specs.LoopLaws.{Passed}
 use Rattle.arrays.proofs.member_numbers.Given as goal
 
 -- the number of party j for u

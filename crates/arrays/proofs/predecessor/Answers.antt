@@ -1,5 +1,4 @@
 -- `predecessor` meets its contract. Assumes nothing.
-use borrow.Author.Rules.{rules}
 use native.Mathlib.Omega.{arith}
 use Rattle.arrays.proofs.predecessor.Goals as goal
 

@@ -1,7 +1,6 @@
 -- `share_fits` meets its contract. Assumes nothing.
 use mathlib.Core.Path.{ap₂, ◌∙◌}
 use Rattle.field.specs.Definitions.{same_element}
-use borrow.Author.Rules.{rules}
 use Rattle.arrays.proofs.share_fits.Goals as goal
 
 pub returns : goal.returns

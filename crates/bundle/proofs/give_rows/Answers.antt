@@ -1,6 +1,5 @@
 -- `give_rows` meets its contract. The loop gives the rows to the run one by one, each tested against the values that were combined for those before it.
 -- Assumes nothing.
-use borrow.Author.Rules.{rules}
 use native.Mathlib.Omega.{arith}
 use mathlib.Core.Logic.{◌⊎◌, inl, inr, ⊎_elim}
 use mathlib.Core.Path.{◌≡◌, refl, sym, ap, ap₂, subst⁻¹, ◌∙◌}
@@ -25,7 +24,7 @@ use Rattle.run.specs.RefusalLaws.{untaken_refused}
 use Rattle.bundle.specs.Bundles.{outcome, rows_of, numbers_from}
 use Rattle.bundle.proofs.CutLaws.{left_is, cut, row_length, row_is}
 use Rattle.bundle.proofs.RowLaws.{stage_batch, Kept, kept_response, passes_at, same_test, only_row, row_taken, row_refused}
-use Rattle.bundle.proofs.Taking.{Taking, taking_start, taking_next, taking_run, taking_numbers}
+use Rattle.bundle.proofs.Taking.{taking_start, taking_next, taking_run, taking_numbers}
 use Rattle.bundle.proofs.give_rows.Goals as goal
 use Rattle.bundle.proofs.give_rows.Lts as lts
 use Rattle.bundle.proofs.give_rows.Reads as reads

@@ -1,5 +1,4 @@
 -- `row_refusal` meets its contract: by the tag, by the stage, and at stage 4 as the run asks before the test. Assumes nothing.
-use borrow.Author.Rules.{rules}
 use native.Mathlib.Omega.{arith}
 use mathlib.Core.Path.{◌≡◌, sym, ◌∙◌}
 use Rattle.records.specs.Tags.{code, tag_of}

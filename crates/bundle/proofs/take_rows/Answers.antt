@@ -1,5 +1,4 @@
 -- `take_rows` meets its contract: refused by the stage, then by the places of the list; else every row is given. Assumes nothing.
-use borrow.Author.Rules.{rules}
 use native.Mathlib.Omega.{arith}
 use mathlib.Core.Path.{◌≡◌, sym, ap, ◌∙◌}
 use mathlib.Core.List.{List}

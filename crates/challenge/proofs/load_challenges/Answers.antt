@@ -1,13 +1,9 @@
 -- `load_challenges` meets its contract. The loop has stored the scalars passed. Assumes nothing.
 use borrow.Author.Rules.{rules}
 use native.Mathlib.Omega.{arith}
-use mathlib.Core.Logic.{⊎_elim}
 use mathlib.Core.Path.{ap}
-use Prim.Native.Nat.{◌-◌}
 use Rattle.field.specs.Definitions.{scalar}
-use Rattle.parameters.specs.Definitions.{cells}
-use Rattle.records.specs.Bytes.{word}
-use Rattle.lists.specs.LoadLaws.{Loading, loading_none, loading_in, loading_past, loading_end}
+use Rattle.lists.specs.LoadLaws.{loading_none, loading_in, loading_past, loading_end}
 use Rattle.challenge.proofs.load_challenges.Goals as goal
 use Rattle.challenge.proofs.load_challenges.Goals.{then-at-lt-CELLS, else-at-lt-CELLS}
 

@@ -2,13 +2,11 @@
 use mathlib.Core.Path.{◌≡◌, refl, sym, ◌∙◌}
 use Prim.Native.Nat.{◌+◌, ◌*◌, ◌-◌, ◌≤◌, ◌<◌}
 use native.Mathlib.Omega.{arith}
-use borrow.Author.Rules.{rules}
 use lib.ListN.{length}
 use Rattle.interpolation.proofs.PointLaws.{slot_is}
 use Rattle.rows.proofs.BasisLaws.{weights_by_is}
 use Rattle.parameters.specs.Definitions.{cells}
 use Rattle.parameters.specs.ParameterLaws.{Bounds, quorum_max}
-use Rattle.text.specs.Texts.{Wrote}
 use Rattle.text.proofs.TextLaws.{wrote_none, wrote_length, wrote_append}
 use Rattle.protocol.specs.Transcript.{nonce, shifted_nonce}
 use Rattle.combination.proofs.PowerLaws.{combined_powers}

@@ -1,22 +1,7 @@
 -- `put_row` meets its contract. The loop has stored the lines of the slots that it passed. Assumes nothing.
-use mathlib.Core.Path.{◌≡◌, refl, sym, ◌∙◌}
-use Prim.Native.Nat.{◌+◌, ◌*◌, ◌-◌, ◌≤◌, ◌<◌}
-use native.Mathlib.Omega.{arith}
-use borrow.Author.Rules.{rules}
-use lib.ListN.{length}
-use Rattle.interpolation.proofs.PointLaws.{slot_is}
-use Rattle.rows.proofs.BasisLaws.{weights_by_is}
-use Rattle.parameters.specs.Definitions.{cells}
-use Rattle.parameters.specs.ParameterLaws.{Bounds, quorum_max}
+use Prim.Native.Nat.{◌-◌, ◌≤◌}
 use Rattle.text.specs.Texts.{Wrote}
-use Rattle.text.proofs.TextLaws.{wrote_none, wrote_length, wrote_append}
-use Rattle.protocol.specs.Transcript.{nonce, shifted_nonce}
-use Rattle.combination.proofs.PowerLaws.{combined_powers}
-use Rattle.run.specs.Runs.{transcript_of}
-use Rattle.run.specs.RunLaws.{formed_of, formed_batch}
-use Rattle.closing.specs.Closing.{most_line}
 use Rattle.closing.specs.SignatureLaws.{row_lines}
-use Rattle.closing.proofs.SignatureLaws.{line_is, row_next, row_max, nonce_is, shifted_is, kept_at, kept_below}
 use Rattle.closing.proofs.put_row.Given as goal
 
 abbrev pub invariant-loop-k : goal.invariant-loop-k

@@ -1,13 +1,11 @@
 -- `put_signatures` meets its contract. The loop has stored the rows that it passed, and raised the powers to those of the next. Assumes nothing.
 use mathlib.Core.Path.{◌≡◌, ap, ◌∙◌}
-use Prim.Native.Nat.{◌+◌, ◌*◌, ◌-◌, ◌≤◌, ◌<◌}
+use Prim.Native.Nat.{◌+◌, ◌*◌, ◌≤◌, ◌<◌}
 use native.Mathlib.Nat.{zero-mul, mul-le-mul, mul_comm, le_refl}
 use native.Mathlib.Omega.{arith}
-use borrow.Author.Rules.{rules}
 use lib.ListN.{length}
 use Rattle.parameters.specs.Definitions.{most_parties}
 use Rattle.parameters.specs.ParameterLaws.{cells_max}
-use Rattle.text.specs.Texts.{Wrote}
 use Rattle.text.proofs.TextLaws.{wrote_none, wrote_length, wrote_append}
 use Rattle.combination.specs.Combination.{powers_at}
 use Rattle.combination.proofs.PowerLaws.{powers_none, powers_next}

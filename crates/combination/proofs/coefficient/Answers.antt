@@ -1,5 +1,4 @@
 -- `coefficient` meets its contract. Assumes nothing.
-use borrow.Author.Rules.{rules}
 use mathlib.Core.Path.{ap, ◌∙◌}
 use Rattle.field.specs.Definitions.{scalar, power}
 use Rattle.protocol.specs.Transcript.{coefficient}

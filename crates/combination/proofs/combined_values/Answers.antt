@@ -1,10 +1,8 @@
 -- `combined_values` meets its contract. The inner loop keeps the product over the dealers passed, the outer one has stored the values passed.
 -- Assumes nothing.
-use borrow.Author.Rules.{rules}
 use native.Mathlib.Omega.{arith}
-use mathlib.Core.Logic.{⊎_elim}
 use mathlib.Core.Path.{◌≡◌, sym, ap, ap₂, ◌∙◌}
-use Prim.Native.Nat.{ℕ, ◌+◌, ◌-◌, ◌*◌, ◌≤◌, min}
+use Prim.Native.Nat.{ℕ, ◌+◌, ◌*◌}
 use lib.ListN.{length, get_or, get_or-eq_default}
 use Rattle.lists.specs.StoreLaws.{stored_none, get_d_default}
 use Rattle.sets.specs.Masks.{has}
@@ -13,7 +11,7 @@ use Rattle.field.specs.Definitions.{identity, product}
 use Rattle.parameters.specs.Definitions.{stride, places}
 use Rattle.arrays.specs.Arrays.{base, commitment_in, elements}
 use Rattle.combination.specs.Combination.{combined_value}
-use Rattle.arrays.specs.LoopLaws.{front, front_next, front_capped}
+use Rattle.arrays.specs.LoopLaws.{front_next, front_capped}
 use Rattle.combination.proofs.Loops.{combined_none, combined_skip, combined_take}
 use Rattle.combination.proofs.combined_values.Goals as goal
 use Rattle.combination.proofs.combined_values.Goals.{then-at-lt-PLACES, else-at-lt-PLACES, then-has, else-has}

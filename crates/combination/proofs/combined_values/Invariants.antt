@@ -1,20 +1,12 @@
 -- `combined_values` meets its contract. The inner loop keeps the product over the dealers passed, the outer one has stored the values passed.
 -- Assumes nothing.
-use borrow.Author.Rules.{rules}
-use native.Mathlib.Omega.{arith}
-use mathlib.Core.Logic.{⊎_elim}
-use mathlib.Core.Path.{◌≡◌, sym, ap, ap₂, ◌∙◌}
-use Prim.Native.Nat.{ℕ, ◌+◌, ◌-◌, ◌*◌, ◌≤◌, min}
-use lib.ListN.{length, get_or, get_or-eq_default}
-use Rattle.lists.specs.StoreLaws.{stored_none, get_d_default}
+use mathlib.Core.Path.{◌≡◌}
+use Prim.Native.Nat.{◌-◌, ◌≤◌, min}
 use Rattle.sets.specs.Masks.{has}
-use Rattle.field.specs.declared.Element.{Element}
-use Rattle.field.specs.Definitions.{identity, product}
-use Rattle.parameters.specs.Definitions.{stride, places}
-use Rattle.arrays.specs.Arrays.{base, commitment_in, elements}
+use Rattle.field.specs.Definitions.{identity}
+use Rattle.arrays.specs.Arrays.{commitment_in}
 use Rattle.combination.specs.Combination.{combined_value}
-use Rattle.arrays.specs.LoopLaws.{front, front_next, front_capped}
-use Rattle.combination.proofs.Loops.{combined_none, combined_skip, combined_take}
+use Rattle.arrays.specs.LoopLaws.{front}
 use Rattle.combination.proofs.combined_values.Given as goal
 
 abbrev pub invariant-loop-i : goal.invariant-loop-i

@@ -1,8 +1,7 @@
 -- `powers_at` meets its contract: a step each turn. Assumes nothing.
-use borrow.Author.Rules.{rules}
 use native.Mathlib.Omega.{arith}
 use mathlib.Core.Path.{◌≡◌, ap, ◌∙◌}
-use Prim.Native.Nat.{◌-◌, ◌≤◌}
+use Prim.Native.Nat.{◌-◌}
 use Rattle.combination.specs.Combination.{powers_at}
 use Rattle.combination.proofs.PowerLaws.{powers_none, powers_next}
 use Rattle.combination.proofs.powers_at.Goals as goal

@@ -1,10 +1,7 @@
 -- `powers_at` meets its contract: a step each turn. Assumes nothing.
-use borrow.Author.Rules.{rules}
-use native.Mathlib.Omega.{arith}
-use mathlib.Core.Path.{◌≡◌, ap, ◌∙◌}
+use mathlib.Core.Path.{◌≡◌}
 use Prim.Native.Nat.{◌-◌, ◌≤◌}
 use Rattle.combination.specs.Combination.{powers_at}
-use Rattle.combination.proofs.PowerLaws.{powers_none, powers_next}
 use Rattle.combination.proofs.powers_at.Given as goal
 
 abbrev pub invariant-loop-step : goal.invariant-loop-step

@@ -1,18 +1,12 @@
 -- `raised` meets its contract. The loop has stored the powers passed, those of 1 as they are. Assumes nothing.
-use borrow.Author.Rules.{rules}
-use native.Mathlib.Omega.{arith}
-use mathlib.Core.Logic.{⊎_elim}
-use mathlib.Core.Path.{◌≡◌, refl, sym, ap, ap₂, ◌∙◌}
+use mathlib.Core.Path.{◌≡◌}
 use mathlib.Core.List.{List}
 use Prim.Native.Nat.{ℕ, ◌+◌, ◌*◌, ◌-◌, ◌/◌, ◌≤◌, min}
-use lib.ListN.{length, get_or, set}
+use lib.ListN.{length, get_or}
 use Rattle.lists.specs.Stores.{stored}
-use Rattle.lists.specs.StoreLaws.{get_d_default, stored_first, stored_capped}
 use Rattle.field.specs.declared.Element.{Element}
 use Rattle.field.specs.Definitions.{identity, powered}
-use Rattle.field.proofs.ElementLaws.{identity_powered, same_is}
 use Rattle.parameters.specs.Definitions.{stride, places}
-use Rattle.combination.specs.Combination.{raised}
 use Rattle.combination.proofs.raised.Given as goal
 
 -- the power at a place

@@ -1,14 +1,9 @@
 -- `table` meets its contract: the loop has stored the values of each u passed, and raised the powers to the last of them. Assumes nothing.
-use borrow.Author.Rules.{rules}
-use native.Mathlib.Omega.{arith}
-use mathlib.Core.Logic.{inl, inr, ⊎_elim}
-use mathlib.Core.Path.{◌≡◌, ap, ◌∙◌}
-use Prim.Native.Nat.{◌+◌, ◌-◌, ◌≤◌}
+use mathlib.Core.Path.{◌≡◌}
+use Prim.Native.Nat.{◌-◌, ◌≤◌}
 use Rattle.parameters.specs.Definitions.{most_parties}
 use Rattle.combination.specs.Combination.{powers_at}
-use Rattle.combination.proofs.PowerLaws.{powers_none, powers_for}
 use Rattle.combination.specs.Tables.{table_to}
-use Rattle.combination.proofs.TableLaws.{table_none, table_more}
 use Rattle.combination.proofs.table.Given as goal
 
 abbrev pub invariant-loop-u : goal.invariant-loop-u

@@ -1,15 +1,14 @@
 -- `with_values` meets its contract: the loop has stored the values passed. Assumes nothing.
-use borrow.Author.Rules.{rules}
 use native.Mathlib.Omega.{arith}
 use mathlib.Core.Path.{◌≡◌, refl, sym, ap, ap₂, ◌∙◌}
 use mathlib.Core.List.{List}
-use Prim.Native.Nat.{ℕ, ◌+◌, ◌*◌, ◌-◌, ◌≤◌, ◌<◌}
+use Prim.Native.Nat.{ℕ, ◌+◌, ◌*◌, ◌≤◌}
 use lib.ListN.{length, get_or, set}
 use Rattle.lists.specs.Stores.{stored}
 use Rattle.lists.specs.StoreLaws.{get_d_default, stored_next}
 use Rattle.field.specs.declared.Element.{Element}
 use Rattle.field.specs.Definitions.{identity}
-use Rattle.parameters.specs.Definitions.{most_parties, stride}
+use Rattle.parameters.specs.Definitions.{stride}
 use Rattle.arrays.specs.ArrayLaws.{elements_length}
 use Rattle.combination.proofs.with_values.Goals as goal
 

@@ -1,16 +1,13 @@
 -- `blames_rightly` meets its contract. No dealer passed is blamed wrongly. Assumes nothing.
 use mathlib.Core.Path.{ap}
-use borrow.Author.Rules.{rules}
 use borrow.Author.Tests.{not-true, not-false}
 use native.Mathlib.Omega.{arith}
-use mathlib.Core.Logic.{⊎_elim}
 use mathlib.Core.Path.{◌≡◌, refl, sym, ◌∙◌}
-use mathlib.Core.Bool.{Bool, true, false, not, ◌||◌, and-false}
-use Prim.Native.Nat.{ℕ, ◌+◌, ◌-◌, ◌≤◌}
+use mathlib.Core.Bool.{false, not, and-false}
+use Prim.Native.Nat.{◌+◌}
 use Rattle.lists.specs.Tests.{all_to}
 use Rattle.lists.specs.TestLaws.{all_next, fails_stays}
 use Rattle.sets.specs.Masks.{has}
-use Rattle.dealing.specs.declared.Dealings.{Dealings}
 use Rattle.dealing.specs.Definitions.{may_blame}
 use Rattle.complaint.proofs.blames_rightly.Invariants.{rightly}
 use Rattle.complaint.proofs.blames_rightly.Goals as goal

@@ -1,12 +1,8 @@
 -- `all_scalars` meets its contract. Every number below i is a scalar. Assumes nothing.
 use mathlib.Core.Path.{ap}
 use mathlib.Core.Bool.{not}
-use Prim.Native.Nat.{◌-◌}
 use native.Mathlib.Omega.{arith}
-use borrow.Author.Rules.{rules}
-use lib.ListN.{get_or}
-use Rattle.lists.specs.CallLaws.{Asked, asked_none, asked_more, asked_fails, asked_all}
-use Rattle.field.specs.Definitions.{is_scalar}
+use Rattle.lists.specs.CallLaws.{asked_none, asked_more, asked_fails, asked_all}
 use Rattle.dealer.proofs.all_scalars.Goals as goal
 
 pub loop-i-init : goal.loop-i-init

@@ -1,9 +1,7 @@
 -- `all_scalars` meets its contract. Every number below i is a scalar. Assumes nothing.
 use Prim.Native.Nat.{◌-◌}
-use native.Mathlib.Omega.{arith}
-use borrow.Author.Rules.{rules}
 use lib.ListN.{get_or}
-use Rattle.lists.specs.CallLaws.{Asked, asked_none, asked_more, asked_fails, asked_all}
+use Rattle.lists.specs.CallLaws.{Asked}
 use Rattle.field.specs.Definitions.{is_scalar}
 use Rattle.dealer.proofs.all_scalars.Given as goal
 

@@ -1,11 +1,8 @@
 -- `load_scalars` meets its contract. The loop has stored the scalars passed. Assumes nothing.
 use mathlib.Core.Path.{◌≡◌, sym}
-use Prim.Native.Nat.{◌-◌, ◌≤◌}
 use native.Mathlib.Omega.{arith}
-use borrow.Author.Rules.{rules}
-use lib.ListN.{length, get_or}
+use lib.ListN.{length}
 use Rattle.lists.specs.StoreLaws.{stored_first, stored_none}
-use Rattle.field.specs.Definitions.{scalar}
 use Rattle.arrays.specs.Arrays.{scalars}
 use Rattle.dealer.proofs.load_scalars.Goals as goal
 

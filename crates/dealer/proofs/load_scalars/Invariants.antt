@@ -1,10 +1,7 @@
 -- `load_scalars` meets its contract. The loop has stored the scalars passed. Assumes nothing.
-use mathlib.Core.Path.{◌≡◌, sym}
+use mathlib.Core.Path.{◌≡◌}
 use Prim.Native.Nat.{◌-◌, ◌≤◌}
-use native.Mathlib.Omega.{arith}
-use borrow.Author.Rules.{rules}
-use lib.ListN.{length, get_or}
-use Rattle.lists.specs.StoreLaws.{stored_first, stored_none}
+use lib.ListN.{get_or}
 use Rattle.field.specs.Definitions.{scalar}
 use Rattle.arrays.specs.Arrays.{scalars}
 use Rattle.dealer.proofs.load_scalars.Given as goal

@@ -1,13 +1,9 @@
 -- `load_commitments` meets its contract. The loop has stored the values passed. Assumes nothing.
 use borrow.Author.Rules.{rules}
 use native.Mathlib.Omega.{arith}
-use mathlib.Core.Logic.{⊎_elim}
 use mathlib.Core.Path.{ap}
-use Prim.Native.Nat.{◌-◌}
 use Rattle.field.specs.Definitions.{element}
-use Rattle.parameters.specs.Definitions.{places}
-use Rattle.records.specs.Bytes.{word}
-use Rattle.lists.specs.LoadLaws.{Loading, loading_none, loading_in, loading_past, loading_end}
+use Rattle.lists.specs.LoadLaws.{loading_none, loading_in, loading_past, loading_end}
 use Rattle.dealing.proofs.load_commitments.Goals as goal
 use Rattle.dealing.proofs.load_commitments.Goals.{then-at-lt-PLACES, else-at-lt-PLACES}
 

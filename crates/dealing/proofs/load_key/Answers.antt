@@ -1,15 +1,11 @@
 -- `load_key` meets its contract. The loop has stored the elements passed. Assumes nothing.
-use borrow.Author.Rules.{rules}
 use native.Mathlib.Omega.{arith}
-use mathlib.Core.Logic.{⊎_elim}
 use mathlib.Core.Path.{ap}
-use Prim.Native.Nat.{◌-◌}
 use Rattle.lists.specs.Stores.{filled}
 use Rattle.lists.specs.StoreLaws.{length_filled}
 use Rattle.field.specs.Definitions.{element, identity}
 use Rattle.parameters.specs.Definitions.{most_parties}
-use Rattle.records.specs.Bytes.{word}
-use Rattle.lists.specs.LoadLaws.{Loading, loading_none, loading_in, loading_past, loading_end}
+use Rattle.lists.specs.LoadLaws.{loading_none, loading_in, loading_past, loading_end}
 use Rattle.dealing.proofs.load_key.Goals as goal
 use Rattle.dealing.proofs.load_key.Goals.{then-at-lt-PARTIES, else-at-lt-PARTIES}
 

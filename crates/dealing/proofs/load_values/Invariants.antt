@@ -1,15 +1,9 @@
 -- `load_values` meets its contract. The loop has stored the values passed. Assumes nothing.
-use borrow.Author.Rules.{rules}
-use native.Mathlib.Omega.{arith}
-use mathlib.Core.Logic.{⊎_elim}
-use mathlib.Core.Path.{ap}
 use Prim.Native.Nat.{◌-◌}
 use Rattle.lists.specs.Stores.{filled}
-use Rattle.lists.specs.StoreLaws.{length_filled}
 use Rattle.field.specs.Definitions.{element, identity}
 use Rattle.records.specs.Bytes.{word}
-use Rattle.arrays.specs.Arrays.{elements}
-use Rattle.lists.specs.LoadLaws.{Loading, loading_none, loading_in, loading_past, loading_end}
+use Rattle.lists.specs.LoadLaws.{Loading}
 use Rattle.dealing.proofs.load_values.Given as goal
 
 abbrev pub invariant-loop-v : goal.invariant-loop-v

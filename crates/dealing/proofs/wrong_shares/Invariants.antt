@@ -1,15 +1,9 @@
 -- `wrong_shares` meets its contract. The mask has the holders passed whose share does not fit. Assumes nothing.
-use borrow.Author.Rules.{rules}
-use native.Mathlib.Omega.{arith}
-use mathlib.Core.Logic.{⊎_elim}
-use mathlib.Core.Path.{◌≡◌, refl, ap, sym, ◌∙◌}
-use Prim.Native.Nat.{ℕ, ◌+◌, ◌-◌, ◌≤◌}
-use Rattle.sets.specs.Masks.{mask_of, insert}
-use Rattle.rows.specs.Definitions.{weights_by}
-use Rattle.interpolation.proofs.PointLaws.{party_is}
+use mathlib.Core.Path.{◌≡◌}
+use Prim.Native.Nat.{◌-◌, ◌≤◌}
+use Rattle.sets.specs.Masks.{mask_of}
 use Rattle.parameters.specs.Definitions.{most_parties}
-use Rattle.parameters.specs.ParameterLaws.{bounds_of, quorum_max}
-use Rattle.dealing.proofs.Shares.{unfit, share_next, wrong_shares_are}
+use Rattle.dealing.proofs.Shares.{unfit}
 use Rattle.dealing.proofs.wrong_shares.Given as goal
 
 abbrev pub invariant-loop-i : goal.invariant-loop-i

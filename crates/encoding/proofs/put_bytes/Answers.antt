@@ -1,11 +1,7 @@
 -- `put_bytes` meets its contract. The loop has stored the bytes passed: with those behind them the buffer is what is promised. Assumes nothing.
-use borrow.Author.Rules.{rules}
 use native.Mathlib.Omega.{arith}
-use mathlib.Core.Path.{◌≡◌, refl, sym, ◌∙◌}
-use Prim.Native.Nat.{◌+◌, ◌-◌, ◌≤◌}
-use lib.ListN.{length, length-set}
-use lib.Seq.{sets}
-use Rattle.encoding.specs.Bytes.{bytes_of}
+use mathlib.Core.Path.{refl, sym, ◌∙◌}
+use lib.ListN.{length-set}
 use Rattle.encoding.proofs.StoreLaws.{bytes_first, bytes_next, bytes_last}
 use Rattle.encoding.proofs.put_bytes.Goals as goal
 

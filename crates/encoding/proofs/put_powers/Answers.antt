@@ -1,12 +1,9 @@
 -- `put_powers` meets its contract. The loop has put the powers passed. Assumes nothing.
 use mathlib.Core.Path.{◌≡◌, ap}
-use Prim.Native.Nat.{◌-◌, ◌≤◌}
 use native.Mathlib.Omega.{arith}
-use borrow.Author.Rules.{rules}
-use lib.ListN.{length, get_or}
+use lib.ListN.{length}
 use Rattle.field.specs.declared.Element.{Element}
-use Rattle.encoding.specs.Bytes.{power_of_four}
-use Rattle.encoding.proofs.StoreLaws.{Put, put_none, put_next}
+use Rattle.encoding.proofs.StoreLaws.{put_none, put_next}
 use Rattle.encoding.proofs.put_powers.Goals as goal
 
 pub loop-i-init : goal.loop-i-init

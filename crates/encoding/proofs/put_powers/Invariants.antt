@@ -1,12 +1,8 @@
 -- `put_powers` meets its contract. The loop has put the powers passed. Assumes nothing.
-use mathlib.Core.Path.{◌≡◌, ap}
 use Prim.Native.Nat.{◌-◌, ◌≤◌}
-use native.Mathlib.Omega.{arith}
-use borrow.Author.Rules.{rules}
-use lib.ListN.{length, get_or}
-use Rattle.field.specs.declared.Element.{Element}
+use lib.ListN.{get_or}
 use Rattle.encoding.specs.Bytes.{power_of_four}
-use Rattle.encoding.proofs.StoreLaws.{Put, put_none, put_next}
+use Rattle.encoding.proofs.StoreLaws.{Put}
 use Rattle.encoding.proofs.put_powers.Given as goal
 
 abbrev pub invariant-loop-i : goal.invariant-loop-i

@@ -1,12 +1,6 @@
 -- `power_of` meets its contract. The loop keeps product × square ^ left modulo m, until none or one is left. Assumes nothing.
-use borrow.Author.Rules.{rules}
-use native.Mathlib.Omega.{arith}
-use native.Mathlib.Nat.{pow-zero, mod-lt, one-mul}
-use mathlib.Core.Logic.{⊎_elim}
-use mathlib.Core.Path.{◌≡◌, ◌∙◌, ap, sym}
-use Prim.Native.Nat.{ℕ, ◌*◌, ◌%◌, ◌^◌, ◌<◌}
-use Rattle.field.proofs.PowerLaws.{pow_one, power_is, even_turn, odd_turn}
-use Rattle.field.proofs.Fits.{product_fits}
+use mathlib.Core.Path.{◌≡◌}
+use Prim.Native.Nat.{◌*◌, ◌%◌, ◌^◌, ◌<◌}
 use Rattle.field.proofs.power_of.Given as goal
 
 abbrev pub invariant-loop-left : goal.invariant-loop-left

@@ -1,5 +1,4 @@
 -- `batch` meets its contract. Assumes nothing.
-use borrow.Author.Rules.{rules}
 use native.Mathlib.Omega.{arith}
 use Rattle.parameters.specs.Definitions.{batch}
 use Rattle.parameters.proofs.batch.Goals as goal

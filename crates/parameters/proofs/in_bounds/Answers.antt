@@ -1,5 +1,4 @@
 -- `in_bounds` meets its contract: each test settles one factor of the definition. Assumes nothing.
-use borrow.Author.Rules.{rules}
 use borrow.Author.Tests.{le-leb, lt-leb}
 use mathlib.Core.Path.{◌≡◌}
 use mathlib.Core.Bool.{false}

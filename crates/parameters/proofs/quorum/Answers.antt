@@ -1,5 +1,4 @@
 -- `quorum` meets its contract. Assumes nothing.
-use borrow.Author.Rules.{rules}
 use native.Mathlib.Omega.{arith}
 use Rattle.parameters.specs.Definitions.{quorum}
 use Rattle.parameters.proofs.quorum.Goals as goal

@@ -1,5 +1,4 @@
 -- `point` meets its contract. Assumes nothing.
-use borrow.Author.Rules.{rules}
 use mathlib.Core.Path.{◌∙◌, ap₂, sym}
 use Rattle.field.specs.Definitions.{minus}
 use Rattle.interpolation.proofs.PointLaws.{point_is}

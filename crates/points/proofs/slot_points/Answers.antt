@@ -1,12 +1,10 @@
 -- `slot_points` meets its contract. The loop has stored the points passed. Assumes nothing.
-use borrow.Author.Rules.{rules}
 use native.Mathlib.Omega.{arith}
-use mathlib.Core.Logic.{⊎_elim}
 use mathlib.Core.Path.{◌≡◌, sym, ◌∙◌}
-use Prim.Native.Nat.{◌+◌, ◌-◌, ◌≤◌, min}
+use Prim.Native.Nat.{◌+◌}
 use Rattle.interpolation.specs.Definitions.{slot}
 use Rattle.interpolation.proofs.PointLaws.{slot_is}
-use Rattle.rows.proofs.RowLaws.{front, front_none, front_next, front_row}
+use Rattle.rows.proofs.RowLaws.{front_none, front_next, front_row}
 use Rattle.points.proofs.slot_points.Goals as goal
 use Rattle.points.proofs.slot_points.Goals.{then-count-lt-MOST_SCALARS, else-count-lt-MOST_SCALARS}
 

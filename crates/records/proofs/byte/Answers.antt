@@ -1,5 +1,4 @@
 -- `byte` meets its contract: past the end the default is read. Assumes nothing.
-use borrow.Author.Rules.{rules}
 use mathlib.Core.Path.{refl, sym}
 use lib.ListN.{get_or-eq_default}
 use Rattle.records.specs.Bytes.{byte_at}

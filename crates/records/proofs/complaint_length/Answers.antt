@@ -1,5 +1,4 @@
 -- `complaint_length` meets its contract. Assumes nothing.
-use borrow.Author.Rules.{rules}
 use Rattle.records.specs.Tags.{complaint_length}
 use Rattle.records.proofs.complaint_length.Goals as goal
 

@@ -1,5 +1,4 @@
 -- `dealing_length` meets its contract. Assumes nothing.
-use borrow.Author.Rules.{rules}
 use Rattle.records.specs.Tags.{dealing_length}
 use Rattle.records.proofs.dealing_length.Goals as goal
 

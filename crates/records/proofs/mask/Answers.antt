@@ -1,9 +1,8 @@
 -- `mask` meets its contract. The loop has read the bytes passed, whose number has 8 bits for each. Assumes nothing.
-use borrow.Author.Rules.{rules}
 use native.Mathlib.Omega.{arith}
 use native.Mathlib.Nat.{le_trans}
 use mathlib.Core.Path.{◌≡◌, refl, sym, ap, ◌∙◌}
-use Prim.Native.Nat.{ℕ, ◌+◌, ◌*◌, ◌-◌, ◌^◌, ◌≤◌, ◌<◌}
+use Prim.Native.Nat.{ℕ, ◌+◌, ◌*◌, ◌^◌, ◌≤◌, ◌<◌}
 use lib.Pow.{pow-add, pow_mono}
 use Rattle.records.specs.Bytes.{wide_at}
 use Rattle.records.specs.Tags.{mask_at}

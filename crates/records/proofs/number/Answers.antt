@@ -1,5 +1,4 @@
 -- `number` meets its contract. Assumes nothing.
-use borrow.Author.Rules.{rules}
 use native.Mathlib.Omega.{arith}
 use native.Mathlib.Nat.{add-zero}
 use Rattle.records.specs.Bytes.{wide_at, number_at}

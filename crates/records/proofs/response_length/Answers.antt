@@ -1,6 +1,5 @@
 -- `response_length` meets its contract. Assumes nothing.
 use mathlib.Core.Path.{refl}
-use borrow.Author.Rules.{rules}
 use Rattle.records.specs.Tags.{response_length}
 use Rattle.records.proofs.response_length.Goals as goal
 

@@ -1,5 +1,4 @@
 -- `setup_length` meets its contract. Assumes nothing.
-use borrow.Author.Rules.{rules}
 use mathlib.Core.Path.{refl}
 use Rattle.records.specs.Tags.{setup_length}
 use Rattle.records.proofs.setup_length.Goals as goal

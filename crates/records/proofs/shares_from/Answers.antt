@@ -1,5 +1,4 @@
 -- `shares_from` meets its contract. Assumes nothing.
-use borrow.Author.Rules.{rules}
 use native.Mathlib.Omega.{arith}
 use Rattle.parameters.specs.Definitions.{quorum}
 use Rattle.records.specs.Tags.{shares_from}

@@ -1,5 +1,4 @@
 -- `shifted_length` meets its contract: CH with one number more. Assumes nothing.
-use borrow.Author.Rules.{rules}
 use native.Mathlib.Omega.{arith}
 use Rattle.records.specs.Tags.{challenges_length, shifted_length}
 use Rattle.records.proofs.RecordLaws.{byte_product}

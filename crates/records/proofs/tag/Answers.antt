@@ -1,5 +1,4 @@
 -- `tag` meets its contract: each arm of the match is one choice of the definition. Assumes nothing.
-use borrow.Author.Rules.{rules}
 use borrow.Author.Tests.{lt-ltb, le-ltb, ne_eqb}
 use Rattle.records.specs.Tags.{tag_of}
 use Rattle.records.proofs.tag.Goals as goal

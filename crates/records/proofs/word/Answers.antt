@@ -1,5 +1,4 @@
 -- `word` meets its contract. Assumes nothing.
-use borrow.Author.Rules.{rules}
 use Rattle.records.specs.Bytes.{word}
 use Rattle.records.proofs.word.Goals as goal
 

@@ -1,13 +1,11 @@
 -- `all_elements` meets its contract. Every number below i is of the kind. Assumes nothing.
 use mathlib.Core.Bool.{not}
-use borrow.Author.Rules.{rules}
 use native.Mathlib.Omega.{arith}
 use mathlib.Core.Path.{◌≡◌, sym, ap, ◌∙◌}
-use Prim.Native.Nat.{◌-◌}
 use Rattle.field.specs.Definitions.{is_element, some_element}
 use Rattle.field.proofs.Readings.{element_read}
 use Rattle.records.specs.Bytes.{word}
-use Rattle.lists.specs.CallLaws.{Asked, asked_none, asked_more, asked_fails, asked_all}
+use Rattle.lists.specs.CallLaws.{asked_none, asked_more, asked_fails, asked_all}
 use Rattle.refusals.proofs.all_elements.Goals as goal
 use Rattle.refusals.proofs.all_elements.Lts as lts
 use Rattle.refusals.proofs.all_elements.Reads as reads

@@ -1,12 +1,8 @@
 -- `all_elements` meets its contract. Every number below i is of the kind. Assumes nothing.
-use borrow.Author.Rules.{rules}
-use native.Mathlib.Omega.{arith}
-use mathlib.Core.Path.{◌≡◌, sym, ap, ◌∙◌}
 use Prim.Native.Nat.{◌-◌}
-use Rattle.field.specs.Definitions.{is_element, some_element}
-use Rattle.field.proofs.Readings.{element_read}
+use Rattle.field.specs.Definitions.{is_element}
 use Rattle.records.specs.Bytes.{word}
-use Rattle.lists.specs.CallLaws.{Asked, asked_none, asked_more, asked_fails, asked_all}
+use Rattle.lists.specs.CallLaws.{Asked}
 use Rattle.refusals.proofs.all_elements.Given as goal
 
 abbrev pub invariant-loop-i : goal.invariant-loop-i

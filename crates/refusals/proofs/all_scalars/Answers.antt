@@ -1,13 +1,11 @@
 -- `all_scalars` meets its contract. Every number below i is of the kind. Assumes nothing.
 use mathlib.Core.Path.{ap}
 use mathlib.Core.Bool.{not}
-use borrow.Author.Rules.{rules}
 use native.Mathlib.Omega.{arith}
 use mathlib.Core.Path.{◌≡◌}
-use Prim.Native.Nat.{◌-◌}
 use Rattle.field.specs.Definitions.{is_scalar}
 use Rattle.records.specs.Bytes.{word}
-use Rattle.lists.specs.CallLaws.{Asked, asked_none, asked_more, asked_fails, asked_all}
+use Rattle.lists.specs.CallLaws.{asked_none, asked_more, asked_fails, asked_all}
 use Rattle.refusals.proofs.all_scalars.Goals as goal
 use Rattle.refusals.proofs.all_scalars.Lts as lts
 use Rattle.refusals.proofs.all_scalars.Reads as reads

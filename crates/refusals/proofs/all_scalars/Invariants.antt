@@ -1,11 +1,8 @@
 -- `all_scalars` meets its contract. Every number below i is of the kind. Assumes nothing.
-use borrow.Author.Rules.{rules}
-use native.Mathlib.Omega.{arith}
-use mathlib.Core.Path.{◌≡◌}
 use Prim.Native.Nat.{◌-◌}
 use Rattle.field.specs.Definitions.{is_scalar}
 use Rattle.records.specs.Bytes.{word}
-use Rattle.lists.specs.CallLaws.{Asked, asked_none, asked_more, asked_fails, asked_all}
+use Rattle.lists.specs.CallLaws.{Asked}
 use Rattle.refusals.proofs.all_scalars.Given as goal
 
 abbrev pub invariant-loop-i : goal.invariant-loop-i

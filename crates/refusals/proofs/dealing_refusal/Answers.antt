@@ -2,7 +2,6 @@
 use mathlib.Core.Path.{ap}
 use mathlib.Core.Bool.{not}
 use mathlib.Core.Path.{refl, sym}
-use borrow.Author.Rules.{rules}
 use Rattle.lists.specs.TestLaws.{Left, left, test_number}
 use Rattle.refusals.specs.Refusals.{dealing_refusal}
 use Rattle.lists.specs.CallLaws.{holds, fails, itself, Beyond, beyond}

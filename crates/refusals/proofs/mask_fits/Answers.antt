@@ -1,5 +1,4 @@
 -- `mask_fits` meets its contract: a mask of 64 bits is below 2 ^ n from n = 64 on. Assumes nothing.
-use borrow.Author.Rules.{rules}
 use borrow.Author.Tests.{lt-ltb}
 use native.Mathlib.Omega.{arith}
 use mathlib.Core.Path.{sym, ap}

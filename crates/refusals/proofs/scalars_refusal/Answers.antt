@@ -4,7 +4,6 @@ use mathlib.Core.Path.{refl, sym, ap, ap₂, ◌∙◌}
 use mathlib.Core.Bool.{Bool, ◌&&◌, and-false}
 use lib.Dec.{eqb}
 use Rattle.records.specs.Bytes.{byte_at}
-use borrow.Author.Rules.{rules}
 use borrow.Author.Tests.{eq-eqb, ne_eqb}
 use Rattle.lists.specs.TestLaws.{Left, left, test_number}
 use Rattle.refusals.specs.Refusals.{scalars_refusal}

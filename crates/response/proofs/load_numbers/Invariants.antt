@@ -1,13 +1,9 @@
 -- `load_numbers` meets its contract. The loop has stored the scalars passed. Assumes nothing.
-use borrow.Author.Rules.{rules}
-use native.Mathlib.Omega.{arith}
-use mathlib.Core.Logic.{⊎_elim}
-use mathlib.Core.Path.{ap}
 use Prim.Native.Nat.{◌-◌}
 use Rattle.field.specs.Definitions.{scalar}
 use Rattle.parameters.specs.Definitions.{places}
 use Rattle.records.specs.Bytes.{word}
-use Rattle.lists.specs.LoadLaws.{Loading, loading_none, loading_in, loading_past, loading_end}
+use Rattle.lists.specs.LoadLaws.{Loading}
 use Rattle.response.proofs.load_numbers.Given as goal
 
 abbrev pub invariant-loop-x : goal.invariant-loop-x

@@ -1,6 +1,5 @@
 -- `untested` meets its contract: the code asks what the definition asks, in its order. Assumes nothing.
 use borrow.Author.Tests.{not-true, not-false}
-use borrow.Author.Rules.{rules}
 use mathlib.Core.Path.{◌≡◌, sym, ap, ◌∙◌}
 use mathlib.Core.Bool.{Bool, not}
 use Rattle.lists.specs.Tests.{require}

@@ -2,7 +2,6 @@
 use mathlib.Core.Path.{◌≡◌, refl, sym, ap, ◌∙◌}
 use Prim.Native.Nat.{ℕ, ◌+◌}
 use native.Mathlib.Omega.{arith}
-use borrow.Author.Rules.{rules}
 use Rattle.sets.specs.Masks.{has, mask_bits, count}
 use Rattle.sets.proofs.MemberLaws.{count_le}
 use Rattle.sets.specs.Lanes.{lane_sum, lower_halves, folded}

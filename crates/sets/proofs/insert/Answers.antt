@@ -3,7 +3,6 @@
 use mathlib.Core.Path.{sym, ap, ◌∙◌}
 use Prim.Native.Nat.{◌-◌}
 use native.Mathlib.Omega.{arith}
-use borrow.Author.Rules.{rules}
 use lib.Bits.{bit_or}
 use Rattle.sets.proofs.BitLaws.{one_shifted}
 use Rattle.sets.proofs.MaskLaws.{insert_zero, insert_above, insert_at}

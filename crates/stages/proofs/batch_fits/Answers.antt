@@ -1,5 +1,4 @@
 -- `batch_fits` meets its contract: each test settles one factor of the definition. Assumes nothing.
-use borrow.Author.Rules.{rules}
 use borrow.Author.Tests.{le-leb, lt-leb, eq-eqb, ne_eqb}
 use mathlib.Core.Path.{ap}
 use lib.Dec.{eqb}

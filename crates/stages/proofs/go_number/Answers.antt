@@ -1,5 +1,4 @@
 -- `go_number` meets its contract: the code asks what the definition asks, in its order. Assumes nothing.
-use borrow.Author.Rules.{rules}
 use borrow.Author.Tests.{eq-eqb, ne_eqb, le-leb, lt-leb}
 use native.Mathlib.Omega.{arith}
 use Prim.Native.Nat.{◌-◌}

@@ -1,7 +1,6 @@
 -- `fixed_length` meets its contract. Assumes nothing.
 use mathlib.Core.Path.{sym, ap}
 use mathlib.Core.Bool.{Bool}
-use borrow.Author.Rules.{rules}
 use Rattle.lists.specs.Tests.{pick}
 use Rattle.lists.specs.CallLaws.{is, is_not}
 use Rattle.records.specs.Tags.{go_length}

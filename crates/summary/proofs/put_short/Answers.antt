@@ -1,8 +1,7 @@
 -- `put_short` meets its contract: the lines of the sets, then that of the bytes. Assumes nothing.
-use mathlib.Core.Path.{◌≡◌, refl, sym, ap, subst, ◌∙◌}
+use mathlib.Core.Path.{◌≡◌, sym, ap, subst, ◌∙◌}
 use Prim.Native.Nat.{◌≤◌}
 use native.Mathlib.Omega.{arith}
-use borrow.Author.Rules.{rules}
 use lib.ListN.{length}
 use Rattle.text.proofs.TextLaws.{wrote_append}
 use Rattle.run.specs.PartyLaws.{Few}

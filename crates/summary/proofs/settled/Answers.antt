@@ -1,6 +1,5 @@
 -- `settled` meets its contract. Assumes nothing.
 use mathlib.Core.Path.{ap}
-use borrow.Author.Rules.{rules}
 use lib.Dec.{leb}
 use Rattle.summary.specs.Consumed.{settled}
 use Rattle.summary.proofs.settled.Goals as goal

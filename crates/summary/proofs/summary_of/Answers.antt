@@ -1,6 +1,5 @@
 -- `summary_of` meets its contract: the records that are read are enough for the sets. Assumes nothing.
 use mathlib.Core.Path.{ap, ◌∙◌}
-use borrow.Author.Rules.{rules}
 use Rattle.answers.specs.Answers.{sets_of}
 use Rattle.summary.proofs.ReadLaws.{read_enough}
 use Rattle.summary.proofs.summary_of.Goals as goal

@@ -1,7 +1,6 @@
 -- `put_field` meets its contract. Assumes nothing.
 use mathlib.Core.Path.{◌∙◌}
 use native.Mathlib.Omega.{arith}
-use borrow.Author.Rules.{rules}
 use lib.ListN.{length-set}
 use Rattle.text.specs.Lines.{field}
 use Rattle.text.proofs.TextLaws.{wrote_byte, wrote_append}

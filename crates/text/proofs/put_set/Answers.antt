@@ -1,10 +1,8 @@
 -- `put_set` meets its contract. The loop has stored the fields of the members among the parties that it passed. Assumes nothing.
-use mathlib.Core.Path.{◌≡◌, refl, subst, subst⁻¹, ◌∙◌}
-use mathlib.Core.Logic.{⊎_elim}
+use mathlib.Core.Path.{◌≡◌, subst, subst⁻¹, ◌∙◌}
 use mathlib.Core.List.{List, [], ◌∷◌}
-use Prim.Native.Nat.{ℕ, ◌+◌, ◌*◌, ◌-◌, ◌≤◌, ◌<◌}
+use Prim.Native.Nat.{ℕ, ◌+◌, ◌*◌, ◌≤◌, ◌<◌}
 use native.Mathlib.Omega.{arith}
-use borrow.Author.Rules.{rules}
 use lib.ListN.{length, length-set}
 use Rattle.sets.specs.Masks.{has, members_from, members}
 use Rattle.sets.proofs.MemberLaws.{members_next, count_le}

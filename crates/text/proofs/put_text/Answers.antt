@@ -1,11 +1,10 @@
 -- `put_text` meets its contract. The loop has stored the part of the text that it passed; the measure is what is left of it. Assumes nothing.
 use mathlib.Core.Path.{◌≡◌}
 use mathlib.Core.List.{List}
-use Prim.Native.Nat.{ℕ, ◌+◌, ◌-◌, ◌≤◌, ◌<◌}
+use Prim.Native.Nat.{ℕ, ◌+◌, ◌<◌}
 use native.Mathlib.Nat.{add_assoc, add-zero}
 use native.Mathlib.Numerals.{add-one}
 use native.Mathlib.Omega.{arith}
-use borrow.Author.Rules.{rules}
 use lib.ListN.{length, take, set, get_or}
 use lib.Seq.{take-suc, take-length}
 use Rattle.text.specs.Texts.{Wrote}

@@ -10,7 +10,6 @@ use Rattle.parameters.specs.ParameterLaws.{bounds_of, quorum_max}
 use Rattle.arrays.specs.Arrays.{commitment_in, elements}
 use Rattle.combination.specs.Combination.{combined_value}
 use Rattle.combination.proofs.PowerLaws.{combined_powers}
-use borrow.Author.Rules.{rules}
 use Rattle.verification.specs.VerificationLaws.{combined_is}
 use Rattle.verification.proofs.combined_at.Goals as goal
 

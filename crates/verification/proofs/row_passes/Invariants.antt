@@ -1,21 +1,9 @@
 -- `row_passes` meets its contract: the loop has combined the values for each u passed, and met no number that fails. Assumes nothing.
-use borrow.Author.Rules.{rules}
-use borrow.Author.Tests.{not-true, not-false}
-use native.Mathlib.Omega.{arith}
-use mathlib.Core.Logic.{inl, inr, ⊎_elim}
-use mathlib.Core.Path.{◌≡◌, refl, sym, ap, ap₂, ◌∙◌}
+use mathlib.Core.Path.{◌≡◌}
 use mathlib.Core.Bool.{true}
-use mathlib.Core.List.{List}
-use Prim.Native.Nat.{ℕ, ◌+◌, ◌-◌, ◌≤◌}
-use Rattle.lists.specs.Tests.{all_to}
-use Rattle.lists.specs.TestLaws.{fails_stays}
-use Rattle.field.specs.declared.Element.{Element}
-use Rattle.parameters.specs.Definitions.{quorum, stride}
-use Rattle.parameters.specs.ParameterLaws.{Bounds, bounds_of, quorum_max}
+use Prim.Native.Nat.{◌-◌, ◌≤◌}
 use Rattle.combination.specs.Combination.{powers_at}
-use Rattle.combination.proofs.PowerLaws.{powers_none, powers_for}
 use Rattle.combination.specs.Tables.{table_to}
-use Rattle.combination.proofs.TableLaws.{table_none, table_more}
 use Rattle.dealing.specs.declared.Dealings.{Dealings}
 use Rattle.complaint.specs.declared.Complaints.{Complaints}
 use Rattle.complaint.specs.Definitions.{unblamed}

@@ -1,20 +1,18 @@
 -- `test_row` meets its contract. The inner loop keeps the product of value^weight over the committed points passed; the outer one has met no number that
 -- fails. Assumes nothing.
 use mathlib.Core.Bool.{not}
-use borrow.Author.Rules.{rules}
 use borrow.Author.Tests.{not-true, not-false}
 use native.Mathlib.Omega.{arith}
 use mathlib.Core.Path.{◌≡◌, refl, sym, ap, ap₂, ◌∙◌}
-use mathlib.Core.Bool.{Bool, true, false, and-false}
+use mathlib.Core.Bool.{Bool, false, and-false}
 use mathlib.Core.List.{List}
-use Prim.Native.Nat.{ℕ, ◌+◌, ◌-◌, ◌≤◌, ◌<◌}
+use Prim.Native.Nat.{ℕ, ◌+◌, ◌≤◌, ◌<◌}
 use lib.ListN.{get_or}
 use Rattle.lists.specs.Tests.{all_to}
 use Rattle.lists.specs.TestLaws.{all_next, fails_stays}
 use Rattle.field.specs.declared.Scalar.{Scalar}
 use Rattle.field.specs.declared.Element.{Element}
 use Rattle.field.specs.Definitions.{scalar, identity, generator, product, raise, same_element}
-use Rattle.chains.specs.Definitions.{chain_value}
 use Rattle.interpolation.specs.Definitions.{party, committed_point}
 use Rattle.rows.specs.declared.Row.{Row}
 use Rattle.rows.specs.Definitions.{listed, weights_of, sum_of, product_of}

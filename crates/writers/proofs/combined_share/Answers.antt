@@ -1,11 +1,9 @@
 -- `combined_share` meets its contract. The loop keeps the sum over the dealers of QUAL passed. Assumes nothing.
 use mathlib.Core.Path.{◌≡◌, sym, ◌∙◌}
-use mathlib.Core.Logic.{⊎_elim}
 use mathlib.Core.Bool.{Bool}
 use mathlib.Core.List.{List}
-use Prim.Native.Nat.{ℕ, ◌+◌, ◌-◌, ◌≤◌}
+use Prim.Native.Nat.{ℕ, ◌+◌}
 use native.Mathlib.Omega.{arith}
-use borrow.Author.Rules.{rules}
 use lib.ListN.{get_or}
 use Rattle.algebra.specs.FoldLaws.{fold_zero, fold_next, fold_keeps}
 use Rattle.lists.specs.Tests.{pick}

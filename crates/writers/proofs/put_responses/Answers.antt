@@ -2,9 +2,8 @@
 use mathlib.Core.Path.{◌≡◌, ap, ap₂, fun_ext, ◌∙◌}
 use mathlib.Core.Bool.{Bool, true}
 use mathlib.Core.List.{List}
-use Prim.Native.Nat.{ℕ, ◌+◌, ◌-◌, ◌≤◌, ◌<◌}
+use Prim.Native.Nat.{ℕ, ◌+◌}
 use native.Mathlib.Omega.{arith}
-use borrow.Author.Rules.{rules}
 use lib.Seq.{sets}
 use Rattle.sets.specs.Masks.{has}
 use Rattle.field.specs.declared.Scalar.{Scalar}
@@ -14,7 +13,7 @@ use Rattle.interpolation.specs.Definitions.{point, party, slot}
 use Rattle.interpolation.proofs.PointLaws.{party_is}
 use Rattle.rows.specs.Definitions.{listed, weights_of, sum_of}
 use Rattle.encoding.specs.Bytes.{fours}
-use Rattle.encoding.proofs.StoreLaws.{Put, put_none, put_next}
+use Rattle.encoding.proofs.StoreLaws.{put_none, put_next}
 use Rattle.protocol.specs.Transcript.{challenge_at}
 use Rattle.arrays.specs.Arrays.{challenge_in, scalars}
 use Rattle.arrays.specs.ArrayLaws.{scalars_interpolated}

@@ -1,30 +1,14 @@
 -- `put_responses` meets its contract. The loop has put the response numbers passed. Assumes nothing.
-use mathlib.Core.Path.{◌≡◌, ap, ap₂, fun_ext, ◌∙◌}
-use mathlib.Core.Bool.{Bool, true}
 use mathlib.Core.List.{List}
 use Prim.Native.Nat.{ℕ, ◌+◌, ◌-◌, ◌≤◌, ◌<◌}
-use native.Mathlib.Omega.{arith}
-use borrow.Author.Rules.{rules}
-use lib.Seq.{sets}
 use Rattle.sets.specs.Masks.{has}
 use Rattle.field.specs.declared.Scalar.{Scalar}
 use Rattle.field.specs.Definitions.{scalar, plus, times}
 use Rattle.rows.specs.declared.Row.{Row}
-use Rattle.interpolation.specs.Definitions.{point, party, slot}
-use Rattle.interpolation.proofs.PointLaws.{party_is}
-use Rattle.rows.specs.Definitions.{listed, weights_of, sum_of}
-use Rattle.encoding.specs.Bytes.{fours}
-use Rattle.encoding.proofs.StoreLaws.{Put, put_none, put_next}
-use Rattle.protocol.specs.Transcript.{challenge_at}
+use Rattle.rows.specs.Definitions.{sum_of}
+use Rattle.encoding.proofs.StoreLaws.{Put}
 use Rattle.arrays.specs.Arrays.{challenge_in, scalars}
-use Rattle.arrays.specs.ArrayLaws.{scalars_interpolated}
-use Rattle.verification.specs.Definitions.{transcript}
-use Rattle.run.specs.declared.Run.{Run}
-use Rattle.run.specs.Runs.{well_formed, transcript_of}
-use Rattle.run.specs.RunLaws.{formed_of}
-use Rattle.answers.specs.Answers.{unblamed_of}
-use Rattle.writers.specs.Writers.{combined_share, response_for}
-use Rattle.writers.proofs.WriterLaws.{qual_is}
+use Rattle.writers.specs.Writers.{combined_share}
 use Rattle.writers.proofs.put_responses.Given as goal
 
 -- the response number for u, as the code works it out

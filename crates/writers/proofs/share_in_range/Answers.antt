@@ -1,6 +1,5 @@
 -- `share_in_range` meets its contract. Assumes nothing.
 use mathlib.Core.Path.{sym, ◌∙◌}
-use borrow.Author.Rules.{rules}
 use Rattle.writers.proofs.share_in_range.Goals as goal
 
 pub returns-then-has : goal.returns-then-has

@@ -1,13 +1,8 @@
 -- `shares_in_range` meets its contract. Every share below i is a scalar or is not read. Assumes nothing.
 use mathlib.Core.Path.{ap}
-use mathlib.Core.Bool.{not, ◌||◌}
-use Prim.Native.Nat.{◌+◌, ◌-◌}
+use mathlib.Core.Bool.{not}
 use native.Mathlib.Omega.{arith}
-use borrow.Author.Rules.{rules}
-use lib.ListN.{get_or}
-use Rattle.lists.specs.CallLaws.{Asked, asked_none, asked_more, asked_fails, asked_all}
-use Rattle.sets.specs.Masks.{has}
-use Rattle.field.specs.Definitions.{is_scalar}
+use Rattle.lists.specs.CallLaws.{asked_none, asked_more, asked_fails, asked_all}
 use Rattle.writers.proofs.shares_in_range.Goals as goal
 
 pub loop-i-init : goal.loop-i-init

@@ -1,10 +1,8 @@
 -- `shares_in_range` meets its contract. Every share below i is a scalar or is not read. Assumes nothing.
 use mathlib.Core.Bool.{not, ◌||◌}
 use Prim.Native.Nat.{◌+◌, ◌-◌}
-use native.Mathlib.Omega.{arith}
-use borrow.Author.Rules.{rules}
 use lib.ListN.{get_or}
-use Rattle.lists.specs.CallLaws.{Asked, asked_none, asked_more, asked_fails, asked_all}
+use Rattle.lists.specs.CallLaws.{Asked}
 use Rattle.sets.specs.Masks.{has}
 use Rattle.field.specs.Definitions.{is_scalar}
 use Rattle.writers.proofs.shares_in_range.Given as goal

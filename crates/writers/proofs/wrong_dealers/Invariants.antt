@@ -1,16 +1,10 @@
 -- `wrong_dealers` meets its contract. The loop's mask is the set of the wrong dealers passed. Assumes nothing.
-use mathlib.Core.Path.{◌≡◌, refl, sym, ◌∙◌}
+use mathlib.Core.Path.{◌≡◌}
 use mathlib.Core.Bool.{Bool, ◌&&◌}
 use mathlib.Core.List.{List}
-use mathlib.Core.Logic.{⊎_elim}
-use Prim.Native.Nat.{ℕ, ◌+◌, ◌-◌, ◌≤◌, ◌<◌}
-use native.Mathlib.Omega.{arith}
-use borrow.Author.Rules.{rules}
+use Prim.Native.Nat.{ℕ, ◌-◌, ◌≤◌}
 use lib.ListN.{get_or}
-use Rattle.lists.specs.Tests.{pick}
-use Rattle.sets.specs.Masks.{has, insert, mask_of}
-use Rattle.sets.proofs.MaskLaws.{mask_of_insert}
-use Rattle.dealing.specs.Definitions.{may_blame}
+use Rattle.sets.specs.Masks.{has, mask_of}
 use Rattle.writers.proofs.wrong_dealers.Given as goal
 
 -- dealer i has a dealing, whose share for j is not valid

@@ -3,8 +3,8 @@ use borrow.Author.Rules.{rules}
 use native.Mathlib.Omega.{arith}
 use mathlib.Core.Path.{◌≡◌, refl, sym, ap, ◌∙◌}
 use mathlib.Core.List.{List, [], ◌∷◌}
-use Prim.Native.Nat.{ℕ, ◌-◌, ◌/◌, ◌^◌, ◌≤◌}
-use lib.ListN.{length, length-map, set}
+use Prim.Native.Nat.{ℕ, ◌/◌}
+use lib.ListN.{length, set}
 use Rattle.field.specs.declared.Element.{Element}
 use Rattle.field.specs.Definitions.{element, identity, product}
 use Rattle.field.proofs.ElementLaws.{raise_powered}

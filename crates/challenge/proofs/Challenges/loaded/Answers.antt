@@ -1,5 +1,4 @@
 -- `Challenges::loaded` meets its contract. Assumes nothing.
-use borrow.Author.Rules.{rules}
 use native.Mathlib.Omega.{arith}
 use Rattle.records.proofs.RecordLaws.{byte_product}
 use Rattle.challenge.specs.Definitions.{challenges_from}

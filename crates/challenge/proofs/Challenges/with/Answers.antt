@@ -1,5 +1,4 @@
 -- `Challenges::with` meets its contract. Assumes nothing.
-use borrow.Author.Rules.{rules}
 use Rattle.challenge.specs.Definitions.{with_challenges}
 use Rattle.challenge.proofs.Challenges.with.Goals as goal
 

@@ -1,5 +1,4 @@
 -- `Challenges::with_shifted` meets its contract. Assumes nothing.
-use borrow.Author.Rules.{rules}
 use Rattle.challenge.specs.Definitions.{with_shifted}
 use Rattle.challenge.proofs.Challenges.with_shifted.Goals as goal
 

@@ -1,8 +1,7 @@
 -- `Complaints::blamed` meets its contract. The loop has the union of the kept masks of the parties passed. Assumes nothing.
-use borrow.Author.Rules.{rules}
 use native.Mathlib.Omega.{arith}
 use mathlib.Core.Path.{◌≡◌, sym, ap, ap₂, ◌∙◌}
-use Prim.Native.Nat.{ℕ, ◌+◌, ◌-◌, ◌≤◌}
+use Prim.Native.Nat.{ℕ, ◌+◌}
 use lib.Bits.{bit_or}
 use Rattle.algebra.specs.Fold.{fold}
 use Rattle.algebra.specs.FoldLaws.{fold_zero, fold_next}

@@ -1,12 +1,9 @@
 -- `Complaints::blamed` meets its contract. The loop has the union of the kept masks of the parties passed. Assumes nothing.
-use borrow.Author.Rules.{rules}
-use native.Mathlib.Omega.{arith}
-use mathlib.Core.Path.{◌≡◌, sym, ap, ap₂, ◌∙◌}
-use Prim.Native.Nat.{ℕ, ◌+◌, ◌-◌, ◌≤◌}
+use mathlib.Core.Path.{◌≡◌}
+use Prim.Native.Nat.{◌+◌, ◌-◌, ◌≤◌}
 use lib.Bits.{bit_or}
 use Rattle.algebra.specs.Fold.{fold}
-use Rattle.algebra.specs.FoldLaws.{fold_zero, fold_next}
-use Rattle.complaint.specs.Definitions.{mask_by, blamed_by}
+use Rattle.complaint.specs.Definitions.{mask_by}
 use Rattle.complaint.proofs.Complaints.blamed.Given as goal
 
 abbrev pub invariant-loop-i : goal.invariant-loop-i

@@ -1,5 +1,4 @@
 -- `Complaints::unblamed` meets its contract. Assumes nothing.
-use borrow.Author.Rules.{rules}
 use mathlib.Core.Path.{ap, ◌∙◌}
 use Rattle.sets.specs.Masks.{minus}
 use Rattle.complaint.specs.Definitions.{unblamed}

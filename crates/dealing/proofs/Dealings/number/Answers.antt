@@ -1,5 +1,4 @@
 -- `Dealings::number` meets its contract: the code asks what the definition asks, in its order. Assumes nothing.
-use borrow.Author.Rules.{rules}
 use mathlib.Core.Path.{◌≡◌}
 use mathlib.Core.Bool.{not}
 use Rattle.lists.specs.Tests.{require}

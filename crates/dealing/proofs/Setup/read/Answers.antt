@@ -1,5 +1,4 @@
 -- `Setup::read` meets its contract. Assumes nothing.
-use borrow.Author.Rules.{rules}
 use Rattle.dealing.specs.Definitions.{no_setup, setup_of}
 use Rattle.dealing.proofs.Setup.read.Goals as goal
 

@@ -3,7 +3,6 @@ use mathlib.Core.Path.{refl}
 use native.Mathlib.Omega.{arith}
 use Rattle.field.specs.Definitions.{P, product}
 use Rattle.field.proofs.Fits.{product_fits}
-use borrow.Author.Rules.{rules}
 use Rattle.field.proofs.Element.mul.Goals as goal
 
 pub overflow_mul-full : goal.overflow_mul-full

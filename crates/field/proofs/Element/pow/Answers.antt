@@ -1,6 +1,5 @@
 -- `Element::pow` meets its contract. Assumes nothing.
 use Rattle.field.specs.Definitions.{raise}
-use borrow.Author.Rules.{rules}
 use Rattle.field.proofs.Element.pow.Goals as goal
 
 pub returns : goal.returns

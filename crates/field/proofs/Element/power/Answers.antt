@@ -1,7 +1,6 @@
 -- `Element::power` meets its contract. Assumes nothing.
 use mathlib.Core.Path.{ap}
 use Rattle.field.specs.Definitions.{P, element, powered}
-use borrow.Author.Rules.{rules}
 use Rattle.field.proofs.Element.power.Goals as goal
 
 pub returns : goal.returns

@@ -7,7 +7,6 @@ use mathlib.Core.Bool.{true, false}
 use lib.Dec.{eqb, ltb}
 use Rattle.field.specs.Definitions.{P, q, power_of, reading_of, read_element}
 use Rattle.field.proofs.Readings.{read_identity}
-use borrow.Author.Rules.{rules}
 use Rattle.field.proofs.Element.read.Goals as goal
 
 pub returns-then-x-eq0 : goal.returns-then-x-eq0

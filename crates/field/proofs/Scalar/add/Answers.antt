@@ -1,7 +1,6 @@
 -- `Scalar::add` meets its contract. Assumes nothing.
 use mathlib.Core.Path.{refl}
 use Rattle.field.specs.Definitions.{q, plus}
-use borrow.Author.Rules.{rules}
 use Rattle.field.proofs.Scalar.add.Goals as goal
 
 pub returns : goal.returns

@@ -3,7 +3,6 @@ use mathlib.Core.Path.{refl}
 use native.Mathlib.Omega.{arith}
 use Rattle.field.specs.Definitions.{q, times}
 use Rattle.field.proofs.Fits.{product_fits}
-use borrow.Author.Rules.{rules}
 use Rattle.field.proofs.Scalar.mul.Goals as goal
 
 pub overflow_mul-whole : goal.overflow_mul-whole

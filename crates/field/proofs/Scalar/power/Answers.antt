@@ -1,7 +1,6 @@
 -- `Scalar::power` meets its contract. Assumes nothing.
 use mathlib.Core.Path.{ap}
 use Rattle.field.specs.Definitions.{q, scalar, power}
-use borrow.Author.Rules.{rules}
 use Rattle.field.proofs.Scalar.power.Goals as goal
 
 pub returns : goal.returns

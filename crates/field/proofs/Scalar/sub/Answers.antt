@@ -1,7 +1,6 @@
 -- `Scalar::sub` meets its contract. Assumes nothing.
 use mathlib.Core.Path.{refl}
 use Rattle.field.specs.Definitions.{q, minus}
-use borrow.Author.Rules.{rules}
 use Rattle.field.proofs.Scalar.sub.Goals as goal
 
 pub returns : goal.returns

@@ -1,5 +1,4 @@
 -- `Responses::interpolated` meets its contract. Assumes nothing.
-use borrow.Author.Rules.{rules}
 use native.Mathlib.Omega.{arith}
 use mathlib.Core.Path.{◌∙◌, ◌≡◌, sym}
 use Rattle.interpolation.specs.Definitions.{slot}

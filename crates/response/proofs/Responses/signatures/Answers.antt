@@ -1,18 +1,14 @@
 -- `Responses::signatures` meets its contract. The loop has stored every φ passed. Assumes nothing.
-use borrow.Author.Rules.{rules}
 use native.Mathlib.Omega.{arith}
 use native.Mathlib.Nat.{mul-le-mul, le_refl, mod-lt, div-lt_iff_lt-mul}
 use mathlib.Core.Path.{◌≡◌, refl, ap, ◌∙◌}
-use Prim.Native.Nat.{ℕ, ◌+◌, ◌*◌, ◌-◌, ◌/◌, ◌%◌, ◌≤◌, ◌<◌}
+use Prim.Native.Nat.{◌*◌, ◌/◌, ◌≤◌, ◌<◌}
 use Rattle.lists.specs.Stores.{stored}
 use Rattle.field.specs.declared.Scalar.{Scalar}
 use Rattle.field.specs.Definitions.{plus}
 use Rattle.rows.specs.Definitions.{basis_of}
-use Rattle.parameters.specs.Definitions.{most_parties, cells}
+use Rattle.parameters.specs.Definitions.{most_parties}
 use Rattle.parameters.specs.ParameterLaws.{bounds_of, key_max, cells_max}
-use Rattle.arrays.specs.Arrays.{member_points}
-use Rattle.dealing.specs.declared.Setup.{Setup}
-use Rattle.response.specs.declared.Responses.{Responses}
 use Rattle.response.specs.Definitions.{shifted_phi_of, signatures_of}
 use Rattle.lists.specs.LoadLaws.{load_in, loaded}
 use Rattle.response.proofs.Responses.signatures.Invariants.{cell}

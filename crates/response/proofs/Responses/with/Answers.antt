@@ -1,5 +1,4 @@
 -- `Responses::with` meets its contract. Assumes nothing.
-use borrow.Author.Rules.{rules}
 use Rattle.arrays.specs.Arrays.{base}
 use Rattle.response.specs.Definitions.{with_response}
 use Rattle.response.proofs.Responses.with.Goals as goal

@@ -1,16 +1,13 @@
 -- `Basis::weights` meets its contract. The loop has stored the weights passed, made from the partial products of both orders. Assumes nothing.
-use borrow.Author.Rules.{rules}
 use native.Mathlib.Omega.{arith}
-use mathlib.Core.Path.{◌≡◌, ◌∙◌, ap, sym}
-use Prim.Native.Nat.{ℕ, ◌-◌, ◌≤◌}
+use mathlib.Core.Path.{◌∙◌, ap, sym}
 use Rattle.field.specs.declared.Scalar.{Scalar}
 use Rattle.field.specs.Definitions.{times}
-use Rattle.rows.specs.declared.Row.{Row}
 use Rattle.interpolation.proofs.WeightLaws.{differences}
 use Rattle.rows.specs.Definitions.{size, nth, weights_by}
 use Rattle.rows.proofs.RowLaws.{listed_cong}
 use Rattle.rows.proofs.BasisLaws.{differences_split}
-use Rattle.rows.proofs.RowLaws.{front, front_none, front_next, front_row}
+use Rattle.rows.proofs.RowLaws.{front_none, front_next, front_row}
 use Rattle.rows.proofs.Basis.weights.Invariants.{made}
 use Rattle.rows.proofs.Basis.weights.Goals as goal
 

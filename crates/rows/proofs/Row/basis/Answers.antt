@@ -1,11 +1,10 @@
 -- `Row::basis` meets its contract. The loop has stored the scales passed. Assumes nothing.
 use borrow.Author.Rules.{rules}
 use native.Mathlib.Omega.{arith}
-use mathlib.Core.Path.{◌≡◌, ap, sym}
-use Prim.Native.Nat.{◌-◌, ◌≤◌}
+use mathlib.Core.Path.{ap, sym}
 use Rattle.rows.specs.declared.Row.{Row}
 use Rattle.rows.specs.Definitions.{size, nth, scale, basis_of}
-use Rattle.rows.proofs.RowLaws.{front, front_none, front_next, front_row}
+use Rattle.rows.proofs.RowLaws.{front_none, front_next, front_row}
 use Rattle.rows.proofs.Row.basis.Goals as goal
 
 pub loop-i-init : goal.loop-i-init

@@ -1,11 +1,8 @@
 -- `Row::basis` meets its contract. The loop has stored the scales passed. Assumes nothing.
-use borrow.Author.Rules.{rules}
-use native.Mathlib.Omega.{arith}
-use mathlib.Core.Path.{◌≡◌, ap, sym}
+use mathlib.Core.Path.{◌≡◌}
 use Prim.Native.Nat.{◌-◌, ◌≤◌}
-use Rattle.rows.specs.declared.Row.{Row}
-use Rattle.rows.specs.Definitions.{size, nth, scale, basis_of}
-use Rattle.rows.proofs.RowLaws.{front, front_none, front_next, front_row}
+use Rattle.rows.specs.Definitions.{size, nth, scale}
+use Rattle.rows.proofs.RowLaws.{front}
 use Rattle.rows.proofs.Row.basis.Given as goal
 
 abbrev pub invariant-loop-i : goal.invariant-loop-i

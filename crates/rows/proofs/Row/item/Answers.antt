@@ -2,7 +2,7 @@
 use borrow.Author.Rules.{rules}
 use native.Mathlib.Omega.{arith}
 use mathlib.Core.Path.{◌≡◌, refl, sym}
-use lib.ListN.{length, length-map, get_or-eq_default}
+use lib.ListN.{length, get_or-eq_default}
 use Rattle.field.specs.Definitions.{scalar}
 use Rattle.rows.specs.Definitions.{nth}
 use Rattle.rows.proofs.Row.item.Goals as goal

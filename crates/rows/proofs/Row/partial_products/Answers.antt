@@ -1,13 +1,12 @@
 -- `Row::partial_products` meets its contract. The loop has stored the products passed, and keeps the next. Assumes nothing.
 use borrow.Author.Rules.{rules}
 use native.Mathlib.Omega.{arith}
-use mathlib.Core.Path.{◌≡◌, ◌∙◌, ap₂, sym}
-use Prim.Native.Nat.{◌-◌, ◌≤◌}
+use mathlib.Core.Path.{◌∙◌, ap₂, sym}
 use Rattle.algebra.specs.FoldLaws.{fold_zero, fold_next}
 use Rattle.field.specs.Definitions.{scalar, minus, times}
 use Rattle.rows.specs.Definitions.{size, nth}
 use Rattle.rows.specs.BasisLaws.{partial_product, partial_products}
-use Rattle.rows.proofs.RowLaws.{front, front_none, front_next, front_row}
+use Rattle.rows.proofs.RowLaws.{front_none, front_next, front_row}
 use Rattle.rows.proofs.Row.partial_products.Goals as goal
 
 pub loop-i-init : goal.loop-i-init

@@ -1,17 +1,9 @@
 -- `Row::product` meets its contract. The loop keeps a chain that comes to the product of value^weight over the places passed. Assumes nothing.
-use borrow.Author.Rules.{rules}
-use native.Mathlib.Omega.{arith}
-use mathlib.Core.Path.{◌≡◌, sym, ap, ◌∙◌}
-use mathlib.Core.List.{List}
-use Prim.Native.Nat.{ℕ, ◌-◌, ◌≤◌}
-use lib.ListN.{length, get_or}
-use Rattle.field.specs.declared.Element.{Element}
-use Rattle.field.specs.Definitions.{scalar, element, raise, product as multiply}
+use mathlib.Core.Path.{◌≡◌}
+use Prim.Native.Nat.{◌-◌, ◌≤◌}
 use Rattle.chains.specs.Definitions.{chain_value}
-use Rattle.rows.specs.declared.Row.{Row}
-use Rattle.rows.specs.Definitions.{most_scalars, size, product_of}
-use Rattle.rows.proofs.RowLaws.{size_max}
-use Rattle.rows.proofs.TurnLaws.{first, product_none, product_next, product_all}
+use Rattle.rows.specs.Definitions.{size, product_of}
+use Rattle.rows.proofs.TurnLaws.{first}
 use Rattle.rows.proofs.Row.product.Given as goal
 
 abbrev pub invariant-loop-i : goal.invariant-loop-i

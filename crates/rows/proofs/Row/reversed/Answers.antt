@@ -1,11 +1,11 @@
 -- `Row::reversed` meets its contract. The loop has stored the points passed. Assumes nothing.
 use borrow.Author.Rules.{rules}
 use native.Mathlib.Omega.{arith}
-use mathlib.Core.Path.{◌≡◌, sym}
-use Prim.Native.Nat.{◌-◌, ◌≤◌}
+use mathlib.Core.Path.{sym}
+use Prim.Native.Nat.{◌-◌}
 use Rattle.rows.specs.Definitions.{size, nth}
 use Rattle.rows.specs.BasisLaws.{reversed}
-use Rattle.rows.proofs.RowLaws.{front, front_none, front_next, front_row}
+use Rattle.rows.proofs.RowLaws.{front_none, front_next, front_row}
 use Rattle.rows.proofs.Row.reversed.Goals as goal
 
 pub loop-i-init : goal.loop-i-init

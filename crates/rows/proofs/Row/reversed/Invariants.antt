@@ -1,11 +1,8 @@
 -- `Row::reversed` meets its contract. The loop has stored the points passed. Assumes nothing.
-use borrow.Author.Rules.{rules}
-use native.Mathlib.Omega.{arith}
-use mathlib.Core.Path.{◌≡◌, sym}
+use mathlib.Core.Path.{◌≡◌}
 use Prim.Native.Nat.{◌-◌, ◌≤◌}
 use Rattle.rows.specs.Definitions.{size, nth}
-use Rattle.rows.specs.BasisLaws.{reversed}
-use Rattle.rows.proofs.RowLaws.{front, front_none, front_next, front_row}
+use Rattle.rows.proofs.RowLaws.{front}
 use Rattle.rows.proofs.Row.reversed.Given as goal
 
 abbrev pub invariant-loop-i : goal.invariant-loop-i

@@ -1,9 +1,8 @@
 -- `Row::scale` meets its contract. The loop keeps the product of the differences passed. Assumes nothing.
 use borrow.Author.Rules.{rules}
 use native.Mathlib.Omega.{arith}
-use mathlib.Core.Logic.{⊎_elim}
 use mathlib.Core.Path.{◌≡◌, ◌∙◌, ap₂, sym}
-use Prim.Native.Nat.{◌+◌, ◌-◌, ◌≤◌}
+use Prim.Native.Nat.{◌+◌}
 use Rattle.field.specs.Definitions.{times}
 use Rattle.interpolation.proofs.WeightLaws.{differences}
 use Rattle.rows.specs.Definitions.{size, nth, scale}

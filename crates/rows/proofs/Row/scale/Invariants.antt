@@ -1,13 +1,8 @@
 -- `Row::scale` meets its contract. The loop keeps the product of the differences passed. Assumes nothing.
-use borrow.Author.Rules.{rules}
-use native.Mathlib.Omega.{arith}
-use mathlib.Core.Logic.{⊎_elim}
-use mathlib.Core.Path.{◌≡◌, ◌∙◌, ap₂, sym}
-use Prim.Native.Nat.{◌+◌, ◌-◌, ◌≤◌}
-use Rattle.field.specs.Definitions.{times}
+use mathlib.Core.Path.{◌≡◌}
+use Prim.Native.Nat.{◌-◌, ◌≤◌}
 use Rattle.interpolation.proofs.WeightLaws.{differences}
-use Rattle.rows.specs.Definitions.{size, nth, scale}
-use Rattle.interpolation.proofs.WeightLaws.{differences_none, differences_skip, differences_take}
+use Rattle.rows.specs.Definitions.{size, nth}
 use Rattle.rows.proofs.Row.scale.Given as goal
 
 abbrev pub invariant-loop-l : goal.invariant-loop-l

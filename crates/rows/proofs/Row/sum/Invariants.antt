@@ -1,13 +1,10 @@
 -- `Row::sum` meets its contract. The loop keeps the sum of weight × value over the places passed. Assumes nothing.
-use borrow.Author.Rules.{rules}
-use native.Mathlib.Omega.{arith}
-use mathlib.Core.Path.{◌≡◌, ◌∙◌, ap, ap₂, sym}
-use Prim.Native.Nat.{ℕ, ◌-◌, ◌≤◌}
+use mathlib.Core.Path.{◌≡◌}
+use Prim.Native.Nat.{◌-◌, ◌≤◌}
 use lib.ListN.{get_or}
 use Rattle.algebra.specs.Fold.{fold}
-use Rattle.algebra.specs.FoldLaws.{fold_zero, fold_next}
 use Rattle.field.specs.Definitions.{scalar, plus, times}
-use Rattle.rows.specs.Definitions.{size, nth, sum_of}
+use Rattle.rows.specs.Definitions.{size, nth}
 use Rattle.rows.proofs.Row.sum.Given as goal
 
 abbrev pub invariant-loop-i : goal.invariant-loop-i

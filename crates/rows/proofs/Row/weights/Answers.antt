@@ -1,5 +1,4 @@
 -- `Row::weights` meets its contract: the basis has the weights of its points. Assumes nothing.
-use borrow.Author.Rules.{rules}
 use mathlib.Core.Path.{◌∙◌, ap}
 use Rattle.rows.specs.declared.Basis.{Basis}
 use Rattle.rows.specs.Definitions.{weights_by}

@@ -1,5 +1,4 @@
 -- `Run::finish` meets its contract. Assumes nothing.
-use borrow.Author.Rules.{rules}
 use Rattle.run.specs.Steps.{finished}
 use Rattle.run.proofs.Run.finish.Goals as goal
 

@@ -1,5 +1,4 @@
 -- `Run::fresh` meets its contract. Assumes nothing.
-use borrow.Author.Rules.{rules}
 use Rattle.lists.specs.Stores.{filled}
 use Rattle.dealing.specs.Definitions.{no_setup}
 use Rattle.run.specs.Runs.{fresh}

@@ -1,5 +1,4 @@
 -- `Run::stage_of` meets its contract. Assumes nothing.
-use borrow.Author.Rules.{rules}
 use mathlib.Core.Path.{sym, ◌∙◌}
 use Rattle.run.specs.RunLaws.{stage_none, stage_past}
 use Rattle.run.proofs.Run.stage_of.Goals as goal

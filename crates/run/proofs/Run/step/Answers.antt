@@ -1,5 +1,4 @@
 -- `Run::step` meets its contract: each arm is one handler. Assumes nothing.
-use borrow.Author.Rules.{rules}
 use mathlib.Core.Path.{◌≡◌, sym, ◌∙◌}
 use mathlib.Core.Bool.{true}
 use Rattle.stages.specs.declared.Handler.{Handler}

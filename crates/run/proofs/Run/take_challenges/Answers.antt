@@ -1,5 +1,4 @@
 -- `Run::take_challenges` meets its contract. Assumes nothing.
-use borrow.Author.Rules.{rules}
 use mathlib.Core.Path.{ap, ◌∙◌}
 use Rattle.challenge.specs.declared.Challenges.{Challenges}
 use Rattle.run.specs.Runs.{set_challenges}

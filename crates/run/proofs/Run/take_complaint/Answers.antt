@@ -1,5 +1,4 @@
 -- `Run::take_complaint` meets its contract. Assumes nothing.
-use borrow.Author.Rules.{rules}
 use mathlib.Core.Path.{◌∙◌}
 use Rattle.run.proofs.Numbers.{refused_by, accepted_by}
 use Rattle.run.proofs.Run.take_complaint.Goals as goal

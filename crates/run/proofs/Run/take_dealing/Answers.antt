@@ -1,5 +1,4 @@
 -- `Run::take_dealing` meets its contract. Assumes nothing.
-use borrow.Author.Rules.{rules}
 use native.Mathlib.Omega.{arith}
 use mathlib.Core.Path.{ap, ap₂, sym, ◌∙◌}
 use Rattle.lists.specs.TestLaws.{or_next_zero}

@@ -1,5 +1,4 @@
 -- `Run::take_go` meets its contract. Assumes nothing.
-use borrow.Author.Rules.{rules}
 use mathlib.Core.Path.{ap, ◌∙◌}
 use Rattle.run.specs.Runs.{set_batch}
 use Rattle.run.specs.Steps.{after_go}

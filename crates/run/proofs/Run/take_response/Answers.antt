@@ -1,5 +1,4 @@
 -- `Run::take_response` meets its contract. Assumes nothing.
-use borrow.Author.Rules.{rules}
 use mathlib.Core.Path.{◌∙◌}
 use Rattle.parameters.specs.ParameterLaws.{bounds_test}
 use Rattle.run.specs.RunLaws.{formed_of, formed_batch}

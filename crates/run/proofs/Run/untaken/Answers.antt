@@ -1,5 +1,4 @@
 -- `Run::untaken` meets its contract: for each handler the refusals but 15. Assumes nothing.
-use borrow.Author.Rules.{rules}
 use mathlib.Core.Path.{◌≡◌, sym, ap, ◌∙◌}
 use native.Mathlib.Omega.{arith}
 use Rattle.dealing.specs.Definitions.{dealing_number}
