@@ -184,16 +184,14 @@ const VALUES: usize = 65535;
 const BUFFER: usize = 65535;
 
 fn main(rt: HostRuntime) {
-    let mut input = rt.stdin();
     // One byte more than a stream may have, so that one which is too long is seen.
     let mut stream = [0u8; STREAM + 1];
-    let got = console::read_full(&mut input, &mut stream);
+    let Some(got) = console::read_input(&mut rt.stdin(), &mut stream) else {
+        console::say(&rt.stderr(), b"scribe", b"the requests could not be read");
+        return;
+    };
     if STREAM < got {
         console::print_bytes(&rt, b"long\n");
-        return;
-    }
-    if !console::input_ended(&mut input) {
-        console::say(&rt.stderr(), b"scribe", b"the requests could not be read");
         return;
     }
     let mut list = [0u32; VALUES];
