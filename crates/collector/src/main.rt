@@ -93,16 +93,14 @@ const INPUT: usize = 262144;
 const LIST: usize = 65535;
 
 fn main(rt: HostRuntime) {
-    let mut stdin = rt.stdin();
     // One byte more than an input may have, so that one which is too long is seen.
     let mut input = [0u8; INPUT + 1];
-    let got = console::read_full(&mut stdin, &mut input);
+    let Some(got) = console::read_input(&mut rt.stdin(), &mut input) else {
+        console::say(&rt.stderr(), b"collector", b"the bundles could not be read");
+        return;
+    };
     if INPUT < got {
         console::print_bytes(&rt, b"long\n");
-        return;
-    }
-    if !console::input_ended(&mut stdin) {
-        console::say(&rt.stderr(), b"collector", b"the bundles could not be read");
         return;
     }
     let mut list = [0u8; LIST];

@@ -1,8 +1,9 @@
 // Standard input, output and error, as the programs use them. What a write could not write is let go, but where a function says otherwise.
 #![tactic(auto)]
 
-ghost use Rattle.std.specs.Prelude.{◌≤◌, length, take};
-ghost use Rattle.std.specs.Io.KnownBytes.{Consumes};
+ghost use Rattle.std.specs.Prelude.{◌<◌, ◌≤◌, length, take, IfSome};
+ghost use Rattle.std.specs.Bool.{OnTrue};
+ghost use Rattle.std.specs.Io.KnownBytes.{Consumes, IsAtEnd, Keeps};
 
 use std::io::{Print, Read};
 
@@ -22,9 +23,25 @@ pub fn read_full<R: Read>(input: &mut R, buf: &mut [u8]) -> usize
 }
 
 // Whether the input has ended: one more read gives nothing, and does not fail.
-pub fn input_ended(input: &mut impl Read) -> bool {
+pub fn input_ended<R: Read>(input: &mut R) -> bool
+    ensures kept { OnTrue result (Keeps (R.remaining input.old) (R.remaining input.new)) }
+    ensures end { OnTrue result (IsAtEnd (R.remaining input.new)) }
+{
     let mut more = [0u8; 1];
     matches!(input.read(&mut more), Ok(0))
+}
+
+// Reads the whole input, or as much of it as fills the buffer, and returns how many bytes that is; none where a read failed.
+pub fn read_input<R: Read>(input: &mut R, buf: &mut [u8]) -> Option<usize>
+    ensures in_bounds { IfSome result (λ n. n ≤ length buf.new) }
+    ensures bytes { IfSome result (λ n. Consumes (R.remaining input.old) (R.remaining input.new) (take n buf.new)) }
+    ensures whole { IfSome result (λ n. n < length buf.new → IsAtEnd (R.remaining input.new)) }
+{
+    let got = read_full(input, buf);
+    if got < buf.len() && !input_ended(input) {
+        return None;
+    }
+    Some(got)
 }
 
 // Bytes as they are.

@@ -89,8 +89,8 @@ fn write(kind: u8, run: Run, s: &[u8], values: &[u32], out: &mut [u8]) -> u8 {
 
 // Answers a request of a known kind from what follows the kind, or the log: fields, values, the buffer's length.
 fn serve_fields(rt: &impl Print, kind: u8, run: Run, s: &[u8], list: &mut [u32], out: &mut [u8])
-    requires in_bounds { 65535 ≤ length list.old }
-    requires in_bounds_2 { 65535 ≤ length out.old }
+    requires list_room { 65535 ≤ length list.old }
+    requires out_room { 65535 ≤ length out.old }
 {
     let count = values_count(kind, s);
     let from = values_from(kind);
@@ -108,8 +108,8 @@ fn serve_fields(rt: &impl Print, kind: u8, run: Run, s: &[u8], list: &mut [u32],
 
 // Answers a VE or RE, from what follows the kind: the length of the log, the log, and the rest.
 fn serve_log(rt: &impl Print, kind: u8, s: &[u8], list: &mut [u32], out: &mut [u8])
-    requires in_bounds { 65535 ≤ length list.old }
-    requires in_bounds_2 { 65535 ≤ length out.old }
+    requires list_room { 65535 ≤ length list.old }
+    requires out_room { 65535 ≤ length out.old }
 {
     let end = streams::log_end(s);
     if end < NUMBER {
@@ -122,8 +122,8 @@ fn serve_log(rt: &impl Print, kind: u8, s: &[u8], list: &mut [u32], out: &mut [u
 
 // Answers one request.
 fn serve(rt: &impl Print, request: &[u8], list: &mut [u32], out: &mut [u8])
-    requires in_bounds { 65535 ≤ length list.old }
-    requires in_bounds_2 { 65535 ≤ length out.old }
+    requires list_room { 65535 ≤ length list.old }
+    requires out_room { 65535 ≤ length out.old }
 {
     if request.len() < 1 {
         streams::answer_broken(rt);
@@ -144,8 +144,8 @@ fn serve(rt: &impl Print, request: &[u8], list: &mut [u32], out: &mut [u8])
 // Answers the request that a stream goes on with, and returns how many bytes it took with its length: all that are left where it is cut.
 fn serve_next(rt: &impl Print, rest: &[u8], list: &mut [u32], out: &mut [u8]) -> usize
     requires rest_nonzero { 0 < length rest.now }
-    requires in_bounds { 65535 ≤ length list.old }
-    requires in_bounds_2 { 65535 ≤ length out.old }
+    requires list_room { 65535 ≤ length list.old }
+    requires out_room { 65535 ≤ length out.old }
     ensures { (0 < result) × (result ≤ length rest.now) }
 {
     let left = rest.len();
@@ -165,8 +165,8 @@ fn serve_next(rt: &impl Print, rest: &[u8], list: &mut [u32], out: &mut [u8]) ->
 
 // Answers every request of a stream.
 fn serve_all(rt: &impl Print, s: &[u8], list: &mut [u32], out: &mut [u8])
-    requires in_bounds { 65535 ≤ length list.old }
-    requires in_bounds_2 { 65535 ≤ length out.old }
+    requires list_room { 65535 ≤ length list.old }
+    requires out_room { 65535 ≤ length out.old }
 {
     let mut at: usize = 0;
     while at < s.len() {
@@ -184,16 +184,14 @@ const VALUES: usize = 65535;
 const BUFFER: usize = 65535;
 
 fn main(rt: HostRuntime) {
-    let mut input = rt.stdin();
     // One byte more than a stream may have, so that one which is too long is seen.
     let mut stream = [0u8; STREAM + 1];
-    let got = console::read_full(&mut input, &mut stream);
+    let Some(got) = console::read_input(&mut rt.stdin(), &mut stream) else {
+        console::say(&rt.stderr(), b"scribe", b"the requests could not be read");
+        return;
+    };
     if STREAM < got {
         console::print_bytes(&rt, b"long\n");
-        return;
-    }
-    if !console::input_ended(&mut input) {
-        console::say(&rt.stderr(), b"scribe", b"the requests could not be read");
         return;
     }
     let mut list = [0u32; VALUES];

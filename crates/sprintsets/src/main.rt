@@ -14,17 +14,12 @@ fn write_whole(rt: &impl Print, error: &impl Print, page: &[u8; SHORT], size: us
 }
 
 fn main(rt: HostRuntime) {
-    let mut input = rt.stdin();
     let error = rt.stderr();
     let mut log = [0u8; ROOM];
-    let got = console::read_full(&mut input, &mut log);
-    if got < ROOM {
-        // The input has ended here, unless a read failed.
-        if !console::input_ended(&mut input) {
-            console::say(&error, b"sprintsets", b"the log could not be read");
-            return;
-        }
-    }
+    let Some(got) = console::read_input(&mut rt.stdin(), &mut log) else {
+        console::say(&error, b"sprintsets", b"the log could not be read");
+        return;
+    };
     let mut page = [0u8; SHORT];
     let size = summary::report(&log[..got], &mut page);
     write_whole(&rt, &error, &page, size);

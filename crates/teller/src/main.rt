@@ -68,14 +68,12 @@ fn tell(rt: &impl Print, s: &[u8], out: &mut [u8])
 }
 
 fn main(rt: HostRuntime) {
-    let mut input = rt.stdin();
     // One byte more than a stream may have, so that one which is too long is seen.
     let mut stream = [0u8; STREAM + 1];
-    let got = console::read_full(&mut input, &mut stream);
-    if got <= STREAM && !console::input_ended(&mut input) {
+    let Some(got) = console::read_input(&mut rt.stdin(), &mut stream) else {
         console::say(&rt.stderr(), b"teller", b"the masks could not be read");
         return;
-    }
+    };
     let mut lines = [0u8; LINES];
     tell(&rt, &stream[..got], &mut lines);
 }

@@ -1,4 +1,4 @@
--- The loop of `read_full` keeps within the buffer, which keeps its length, and has put in front of it what the input gave.
+-- The loop of `read_full` keeps within the buffer, and has put in front of it what the input gave.
 use Rattle.std.proofs.Common.{length, ◌-◌, ◌≤◌, take}
 use Rattle.std.specs.Io.KnownBytes.{Consumes}
 use Rattle.console.proofs.read_full.Given as goal
