@@ -1,117 +1,38 @@
 -- The sets and the bytes of a reading for the sets alone, from the records of the complete reading (document 02, request 2.6). Assumes nothing.
-use Rattle.std.specs.Prelude.{◌≡◌, refl, true, ◌⊎◌, List, [], ◌∷◌, ◌++◌, ℕ, ◌≤◌, ◌<◌, length, ltb}
-use Rattle.std.proofs.Common.{sym, ap, subst, ◌∙◌, inl, inr, ⊎_elim, append-nil, append_assoc, arith}
-use Rattle.std.proofs.Math.Decide.{ℕ_discrete, dec_lt}
+-- ---- one record more
+use Rattle.std.specs.Prelude.{◌≡◌, ◌⊎◌, List, [], ◌∷◌, ◌++◌, ℕ, ◌<◌, length, ltb}
+use Rattle.std.proofs.Common.{sym, ap, ◌∙◌}
 use Rattle.lists.specs.Tests.{pick}
 use Rattle.text.specs.Lines.{line}
-use Rattle.run.specs.declared.Run.{Run}
-use Rattle.run.specs.Runs.{fresh, begun, stage_of}
-use Rattle.run.specs.Steps.{step_of, after_from, after}
-use Rattle.run.specs.RunLaws.{stage_none}
-use Rattle.run.specs.RefusalLaws.{refusal_keeps}
+use Rattle.run.specs.Runs.{fresh, stage_of}
+use Rattle.run.specs.Steps.{after}
 use Rattle.answers.specs.Answers.{sets_of}
 use Rattle.reader.specs.Cutting.{records_of, run_of}
 use Rattle.reader.proofs.Endings.{records_start}
 use Rattle.reader.specs.Report.{long_word, longest}
-use Rattle.summary.specs.Consumed.{settled, up_to, read_of, counted_from, consumed, summed}
+use Rattle.summary.specs.Consumed.{read_of, counted_from, consumed, summed}
 use Rattle.summary.specs.Short.{bytes_word, short_lines, short_of}
-use Rattle.summary.proofs.StageLaws.{Late, late_step, early_step, late_settled, early_unsettled}
-use Rattle.summary.proofs.ReadLaws.{up_to_brought, up_to_all, read_enough}
+use Rattle.summary.proofs.ReadLaws.{read_enough}
 use Rattle.summary.proofs.CountLaws.{counted_brought}
 use Rattle.promises.specs.Lists.{accepted}
-use Rattle.promises.proofs.ListLaws.{snoc}
 use Rattle.promises.specs.Claims.{member_lines}
-use Rattle.promises.proofs.MadeLaws.{made_stage}
 use Rattle.promises.proofs.Pages.{sets_are}
-use Rattle.readings.specs.Brought.{stage_after, Brings, Brought}
-
--- ---- one record more
-
-from_snoc : (r : Run) (l : List (List ℕ)) (s : List ℕ) → after_from r (snoc l s) ≡ (step_of (after_from r l) s).run
-unfolding after_from
-from_snoc r [] s = refl
-from_snoc r (x ∷ l) s = from_snoc (step_of r x).run l s
-
-after_snoc : (l : List (List ℕ)) (s : List ℕ) → after (snoc l s) ≡ (step_of (after l) s).run
-unfolding after
-after_snoc l s = from_snoc fresh l s
-
-module _ (l : List (List ℕ)) (s : List ℕ) where
-  -- the stage that the run keeps after it is the one that it counts as at
-  next_stage : (step_of (after l) s).run.stage ≡ stage_after (snoc l s)
-  next_stage = ap (λ (r : Run). r.stage) (sym (after_snoc l s)) ∙ sym (made_stage (snoc l s))
-
-  -- from stage 3 on no record brings stage 3 or 6
-  brings_early : Brings l s → stage_after l < 3
-  brings_early (g, d) = go (dec_lt (stage_after l) 3)
-    where
-      go : Dec (stage_after l < 3) → stage_after l < 3
-      go (yes m) = m
-      go (no n) =
-          let h : Late (after l) (step_of (after l) s).run = late_step (after l) s (omega arith) in
-          absurd (d (made_stage l ∙ sym (h.not_again (⊎_elim (λ e. inl (next_stage ∙ e)) (λ e. inr (next_stage ∙ e)) g)) ∙ next_stage))
-
-  -- before it the next stage that is 3 or more is 3 or 6
-  crosses : stage_after l < 3 → 3 ≤ stage_after (snoc l s) → Brings l s
-  crosses m k =
-      (⊎_elim (λ e. inl (omega (arith, next_stage))) (λ e. inr (sym next_stage ∙ e)) (early_step (after l) s m (omega (arith, made_stage l))), λ e. absurd (omega arith))
-
-  -- such a record fixes the sets
-  brings_settles : Brings l s → settled (step_of (after l) s).run ≡ true
-  brings_settles (g, d) =
-      subst (λ (r : Run). settled r ≡ true) (after_snoc l s) (late_settled (after (snoc l s)) (⊎_elim (λ e. omega arith) (λ e. omega arith) g))
-
-  -- and is accepted
-  brings_accepted : Brings l s → (step_of (after l) s).number ≡ 0
-  brings_accepted (g, d) = go (ℕ_discrete (step_of (after l) s).number 0)
-    where
-      go : Dec ((step_of (after l) s).number ≡ 0) → (step_of (after l) s).number ≡ 0
-      go (yes e) = e
-      go (no n) = absurd (d (ap stage_of (sym (refusal_keeps (after l) s n) ∙ sym (after_snoc l s))))
-
--- ---- whether a record brings stage 3 or 6
-
-fresh_early : stage_after [] < 3
-unfolding after after_from fresh begun
-fresh_early = omega (arith, stage_none fresh refl)
-
--- the first record that brings stage 3 or more
-first_brings : (l m : List (List ℕ)) → stage_after l < 3 → 3 ≤ stage_after (l ++ m) → Brought (l ++ m)
-first_brings l [] e k = absurd (omega (arith, ap stage_after (append-nil l)))
-first_brings l (s ∷ m) e k = go (first_brings (snoc l s) m) (dec_lt (stage_after (snoc l s)) 3)
-  where
-    regroup : snoc l s ++ m ≡ l ++ (s ∷ m)
-    regroup = append_assoc l (s ∷ []) m
-
-    go : (stage_after (snoc l s) < 3 → 3 ≤ stage_after (snoc l s ++ m) → Brought (snoc l s ++ m)) → Dec (stage_after (snoc l s) < 3) → Brought (l ++ (s ∷ m))
-    go later (yes n) = subst Brought regroup (later n (omega (arith, ap stage_after regroup)))
-    go later (no n) = record { before = l; bringing = s; later = m; split = refl; brings = crosses l s e (omega arith) }
+use Rattle.readings.specs.Brought.{Brings, Brought}
+use Rattle.readings.proofs.SummaryLaws.{brings_accepted, bringing_or_early, read_to, read_all}
 
 -- Of the records of a log one brings stage 3 or 6, or the stage after all of them is under 3.
 pub brought_or_early : (log : List ℕ) → Brought (records_of log) ⊎ (stage_of (run_of log) < 3)
-unfolding run_of
-brought_or_early log = go (dec_lt (stage_after (records_of log)) 3)
-  where
-    go : Dec (stage_after (records_of log) < 3) → Brought (records_of log) ⊎ (stage_after (records_of log) < 3)
-    go (yes m) = inr m
-    go (no n) = inl (first_brings [] (records_of log) fresh_early (omega arith))
+brought_or_early log = bringing_or_early log
 
 -- ---- the records that are read
 
 -- Where a record of the log brings stage 3 or 6, the reading ends with it.
 pub read_brought : (log : List ℕ) (l : List (List ℕ)) (s : List ℕ) (m : List (List ℕ)) → records_of log ≡ l ++ (s ∷ m) → Brings l s → read_of log ≡ l ++ (s ∷ [])
-unfolding read_of after
-read_brought log l s m e b =
-    ap (up_to fresh) e ∙ up_to_brought fresh l s m (early_unsettled (after l) (brings_early l s b)) (brings_settles l s b)
+read_brought log l s m e b = read_to log l s m e b
 
 -- Where none does, all records are read.
 pub read_unbrought : (log : List ℕ) → (Brought (records_of log) → ⊥) → read_of log ≡ records_of log
-unfolding read_of after run_of
-read_unbrought log none = go (brought_or_early log)
-  where
-    go : Brought (records_of log) ⊎ (stage_of (run_of log) < 3) → up_to fresh (records_of log) ≡ records_of log
-    go (inl b) = absurd (none b)
-    go (inr m) = up_to_all fresh (records_of log) (early_unsettled (after_from fresh (records_of log)) m)
+read_unbrought log none = read_all log none
 
 -- ---- the sets
 
@@ -126,12 +47,12 @@ sets_alone log = (read_enough log).sets_same
 pub bytes_brought : (log : List ℕ) (l : List (List ℕ)) (s : List ℕ) (m : List (List ℕ)) → records_of log ≡ l ++ (s ∷ m) → Brings l s → consumed log ≡ summed (l ++ (s ∷ []))
 unfolding consumed after
 bytes_brought log l s m e b =
-    ap (counted_from fresh) (read_brought log l s m e b) ∙ counted_brought l fresh log s m (sym (records_start log) ∙ e) (brings_accepted l s b)
+    ap (counted_from fresh) (read_to log l s m e b) ∙ counted_brought l fresh log s m (sym (records_start log) ∙ e) (brings_accepted l s b)
 
 -- Where none does, they are what all the records of the log count: each complete one with a known tag and a fixed length that length, any other 0.
 pub bytes_unbrought : (log : List ℕ) → (Brought (records_of log) → ⊥) → consumed log ≡ counted_from fresh (records_of log)
 unfolding consumed
-bytes_unbrought log none = ap (counted_from fresh) (read_unbrought log none)
+bytes_unbrought log none = ap (counted_from fresh) (read_all log none)
 
 -- ---- the short page
 

@@ -79,7 +79,8 @@ fn read_on(log: &[u8]) -> Passage
         let passed = reader::record_length(run, record);
         bytes += counted_length(passed, record);
         // a refused record does not copy the run
-        if run.untaken(record) == 0 {
+        let taken = run.untaken(record) == 0;
+        if taken {
             let reply = run.step(record);
             run = reply.run;
         }

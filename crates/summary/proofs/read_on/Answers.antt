@@ -16,7 +16,7 @@ use Rattle.summary.specs.Consumed.{counted_by, counted_length}
 use Rattle.summary.proofs.CountLaws.{counted_max}
 use Rattle.summary.proofs.Reading.{reading_start, reading_next, reading_settled, reading_last}
 use Rattle.summary.proofs.read_on.Goals as goal
-use Rattle.summary.proofs.read_on.Goals.{then-untaken-eq0, else-untaken-eq0}
+use Rattle.summary.proofs.read_on.Goals.{then-taken, else-taken}
 use Rattle.summary.proofs.read_on.Lts as lts
 use Rattle.summary.proofs.read_on.Reads as reads
 use Rattle.summary.proofs.read_on.Tie as tie
@@ -103,26 +103,26 @@ overflow_add-bytes c =
 asked : (c : lts.After-untaken tie.the-claims reads.Pre reads.Post goal.the-invariant-loop-from goal.the-decreases-loop-from tie.handed_clauses) →
     let l = c.before.before.before.before.before.before.before.before in
     let s = drop l.loop-from.from l.args.log.now in
-    c.untaken.result ≡ untaken l.loop-from.run (next_record l.loop-from.run s)
+    c.untaken-taken.result ≡ untaken l.loop-from.run (next_record l.loop-from.run s)
 asked c =
     let n = c.before.before.before in
-    c.untaken.ensures ∙ ap (untaken n.loop-from.run) (record_is n)
+    c.untaken-taken.ensures ∙ ap (untaken n.loop-from.run) (record_is n)
 
 -- where the two ways meet, the run is that of the step
 given : (c : lts.Joined2 tie.the-claims reads.Pre reads.Post goal.the-invariant-loop-from goal.the-decreases-loop-from tie.handed_clauses) →
     let l = c.before.before.before.before.before.before.before.before.before in
     let s = drop l.loop-from.from l.args.log.now in
-    c.if-untaken-eq0.run ≡ (step_of l.loop-from.run (next_record l.loop-from.run s)).run
+    c.if-taken.run ≡ (step_of l.loop-from.run (next_record l.loop-from.run s)).run
 given c =
     let n = c.before.before.before.before in
     let l = n.before.before.before.before.before in
     let r = l.loop-from.run in
     let s = next_record r (drop l.loop-from.from l.args.log.now) in
-    elim c.if-untaken-eq0.branch [
-      | then-untaken-eq0 w ↦
+    elim c.if-taken.branch [
+      | then-taken w ↦
           w.run-is ∙ ap (λ (y : Reply). y.run) (w.step-reply.ensures ∙ ap (step_of r) (record_is n))
-      | else-untaken-eq0 w ↦
-          let refuses : c.untaken.result ≢ 0 = w.if-untaken-eq0.false in
+      | else-taken w ↦
+          let refuses : c.untaken-taken.result ≢ 0 = w.if-taken.false in
           w.run-is ∙ sym (ap (λ (y : Reply). y.run) (untaken_refused r s (λ e. refuses (asked c.before ∙ e))))
     ]
 
