@@ -24,7 +24,8 @@ fn load_challenges(list: [Scalar; CELLS], bytes: &[u8], from: u16, count: u16) -
     let mut next = list;
     for x in 0..count {
         let at = x as usize;
-        if at < CELLS {
+        let kept = at < CELLS;
+        if kept {
             next[at] = Scalar(records::word(bytes, from, x));
         }
     }

@@ -110,7 +110,8 @@ pub fn table(list: [Element; PLACES], n: u8, qual: u64, quorum: u8, count: u8) -
     let mut powers = list;
     let mut values = [Element::ONE; PLACES];
     for u in 0..count {
-        if 0 < u {
+        let later = 0 < u;
+        if later {
             let more = raised(powers, n);
             powers = more;
         }

@@ -1,2 +1,2 @@
-// Definitions and laws alone, in specs/.
+// Definitions, in specs/, and laws, in proofs/: no code.
 #![tactic(auto)]

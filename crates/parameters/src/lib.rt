@@ -52,7 +52,8 @@ pub fn batch(m: u8, t: u8) -> u8
 pub fn is_party(n: u8, i: u8) -> bool
     ensures { result ≡ is_party n i }
 {
-    if i < 1 {
+    let none = i < 1;
+    if none {
         return false;
     }
     i <= n

@@ -1,2 +1,2 @@
-// What is promised of lists of records: theorems in specs/, no code.
+// What is promised of lists of records: theorems in proofs/ over what specs/ says, no code.
 #![tactic(auto)]

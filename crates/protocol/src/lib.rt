@@ -1,2 +1,2 @@
-// What is promised of lists of records: theorems in specs/, no code.
+// The formulas, in specs/, and their laws, in proofs/: no code.
 #![tactic(auto)]

@@ -51,7 +51,8 @@ pub fn record_length(run: Run, rest: &[u8]) -> usize
     if tag == 1 {
         return own_length(rest);
     }
-    if tag == 7 {
+    let waits = tag == 7;
+    if waits {
         return own_length(rest);
     }
     if stage == 0 {

@@ -1,2 +1,2 @@
-// What is promised of readings of logs for their sets: theorems in specs/, no code.
+// What is promised of readings of logs for their sets: theorems in proofs/ over what specs/ says, no code.
 #![tactic(auto)]

@@ -58,7 +58,8 @@ impl Row {
         let own = self.item(i);
         let mut below = Scalar::ONE;
         for l in 0..m {
-            if l != i {
+            let apart = l != i;
+            if apart {
                 let other = self.at[l as usize];
                 below = below.mul(own.sub(other));
             }

@@ -252,7 +252,8 @@ impl Run {
         let a = self.setup.a;
         let b = self.b;
         let found = refusals::shifted_refusal(a, b, bytes);
-        if found != 0 {
+        let refused = found != 0;
+        if refused {
             return self.answer(found);
         }
         let old = self.challenges;

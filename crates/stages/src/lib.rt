@@ -21,6 +21,7 @@ pub enum Handler {
 }
 
 // Each tag is taken at one stage only.
+#[tactic(auto, unfolding(crate::specs::Definitions::handler_at, crate::specs::Definitions::at_stage, crate::specs::Definitions::taken_at, records::specs::Tags::decoded))]
 pub fn taken_by(tag: u8, stage: u8) -> Handler
     ensures { result ≡ handler_at (decoded tag) stage }
 {
@@ -94,7 +95,8 @@ pub fn batch_fits(stage: u8, n: u8, t: u8, m: u8, b: u8) -> bool
     ensures { result ≡ batch_fits stage n t m b }
 {
     if 1 < stage {
-        if m < n - t {
+        let few = m < n - t;
+        if few {
             return false;
         }
         return b == parameters::batch(m, t);

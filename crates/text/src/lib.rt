@@ -23,7 +23,8 @@ fn put_decimal(out: &mut [u8], at: usize, n: u32) -> usize
     ensures { Wrote out.old out.new at result (decimal n) }
 {
     let mut next = at;
-    if 10 <= n {
+    let more = 10 <= n;
+    if more {
         next = put_decimal(out, at, n / 10);
     }
     out[next] = (48 + n % 10) as u8;

@@ -5,7 +5,7 @@ use mathlib.Core.Path.{ap}
 use Rattle.field.specs.Definitions.{scalar}
 use Rattle.lists.specs.LoadLaws.{loading_none, loading_in, loading_past, loading_end}
 use Rattle.challenge.proofs.load_challenges.Goals as goal
-use Rattle.challenge.proofs.load_challenges.Goals.{then-at-lt-CELLS, else-at-lt-CELLS}
+use Rattle.challenge.proofs.load_challenges.Goals.{then-kept, else-kept}
 
 pub loop-x-init : goal.loop-x-init
 loop-x-init c = loading_none (search rules)
@@ -13,10 +13,10 @@ loop-x-init c = loading_none (search rules)
 pub loop-x-preserved : goal.loop-x-preserved
 loop-x-preserved c =
     let l = c.loop-x in
-    elim c.if-at-lt-CELLS.branch [
-      | then-at-lt-CELLS w ↦
+    elim c.if-kept.branch [
+      | then-kept w ↦
           loading_in l.invariant (omega arith) (omega arith) (ap scalar w.word.ensures) w.next-is
-      | else-at-lt-CELLS w ↦
+      | else-kept w ↦
           loading_past l.invariant (omega arith) (omega arith) w.next-is
     ]
 

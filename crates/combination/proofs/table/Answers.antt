@@ -8,7 +8,7 @@ use Rattle.combination.proofs.PowerLaws.{powers_none, powers_for}
 use Rattle.combination.specs.Tables.{table_to}
 use Rattle.combination.proofs.TableLaws.{table_none, table_more}
 use Rattle.combination.proofs.table.Goals as goal
-use Rattle.combination.proofs.table.Goals.{then-u-gt0, else-u-gt0}
+use Rattle.combination.proofs.table.Goals.{then-later, else-later}
 use Rattle.combination.proofs.table.Lts as lts
 use Rattle.combination.proofs.table.Reads as reads
 use Rattle.combination.proofs.table.Tie as tie
@@ -16,15 +16,15 @@ use Rattle.combination.proofs.table.Tie as tie
 -- the powers for u + 1
 raised_to : (j : lts.Joined1 tie.the-claims reads.Pre reads.Post goal.the-invariant-loop-u goal.the-decreases-loop-u) →
     let l = j.before.before in
-    j.if-u-gt0.powers ≡ powers_at l.args.n l.args.list l.loop-u.u
+    j.if-later.powers ≡ powers_at l.args.n l.args.list l.loop-u.u
 raised_to j =
     let l = j.before.before in
     let a = l.args in
-    powers_for a.n a.list l.loop-u.u l.loop-u.invariant.3 (elim j.if-u-gt0.branch [
-      | then-u-gt0 w ↦
-          inl (w.if-u-gt0.true, w.powers-is ∙ w.raised-more.ensures)
-      | else-u-gt0 w ↦
-          inr (w.if-u-gt0.false, w.powers-is)
+    powers_for a.n a.list l.loop-u.u l.loop-u.invariant.3 (elim j.if-later.branch [
+      | then-later w ↦
+          inl (w.if-later.true, w.powers-is ∙ w.raised-more.ensures)
+      | else-later w ↦
+          inr (w.if-later.false, w.powers-is)
     ])
 
 pub loop-u-init : goal.loop-u-init

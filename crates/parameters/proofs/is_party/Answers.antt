@@ -2,8 +2,8 @@
 use borrow.Author.Tests.{le-leb, lt-leb}
 use Rattle.parameters.proofs.is_party.Goals as goal
 
-pub returns-then-i-lt1 : goal.returns-then-i-lt1
-returns-then-i-lt1 c = rw (lt-leb 1 _ c.if-i-lt1.true)
+pub returns-then-none : goal.returns-then-none
+returns-then-none c = rw (lt-leb 1 _ c.if-none.true)
 
 pub returns : goal.returns
-returns c = rw (le-leb 1 _ c.if-i-lt1.false)
+returns c = rw (le-leb 1 _ c.if-none.false)

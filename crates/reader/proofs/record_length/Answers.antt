@@ -42,18 +42,18 @@ returns-then-tag-eq1 c =
     let t = c.before.before in
     c.own_length.ensures ∙ rw (tag_is (tag_of t.args.rest.now) SU t.tag-tag.ensures c.if-tag-eq1.true) refl
 
-pub returns-then-tag-eq7 : goal.returns-then-tag-eq7
+pub returns-then-waits : goal.returns-then-waits
 unfolding length_of length_at
-returns-then-tag-eq7 c =
+returns-then-waits c =
     let t = c.before.before.before in
-    c.own_length-then-tag-eq7.ensures ∙ rw (tag_is (tag_of t.args.rest.now) SX t.tag-tag.ensures c.if-tag-eq7.true) refl
+    c.own_length-then-waits.ensures ∙ rw (tag_is (tag_of t.args.rest.now) SX t.tag-tag.ensures c.if-waits.true) refl
 
 pub returns-then-stage-eq0 : goal.returns-then-stage-eq0
 unfolding length_of
 returns-then-stage-eq0 c =
     let t = c.before.before.before in
     let a = t.args in
-    sym (none_yet (tag_of a.rest.now) a.run a.rest.now (λ e. c.if-tag-eq1.false (t.tag-tag.ensures ∙ ap code e)) (λ e. c.if-tag-eq7.false (t.tag-tag.ensures ∙ ap code e)) c.if-stage-eq0.true)
+    sym (none_yet (tag_of a.rest.now) a.run a.rest.now (λ e. c.if-tag-eq1.false (t.tag-tag.ensures ∙ ap code e)) (λ e. c.if-waits.false (t.tag-tag.ensures ∙ ap code e)) c.if-stage-eq0.true)
 
 pub returns-in-2 : goal.returns-in-2
 unfolding length_at
@@ -90,4 +90,4 @@ unfolding length_of length_at
 returns-in_default c =
     let t = c.before.before.before.before in
     let n = c.in_default.in_default-own.rest in
-    rw (tag_none (tag_of t.args.rest.now) t.tag-tag.ensures c.if-tag-eq1.false c.if-tag-eq7.false n.0.0.0.0.0.1 n.0.0.0.0.1 n.0.0.0.1 n.0.0.1 n.0.1 n.1)
+    rw (tag_none (tag_of t.args.rest.now) t.tag-tag.ensures c.if-tag-eq1.false c.if-waits.false n.0.0.0.0.0.1 n.0.0.0.0.1 n.0.0.0.1 n.0.0.1 n.0.1 n.1)

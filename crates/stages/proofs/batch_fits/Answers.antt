@@ -6,17 +6,17 @@ use Prim.Native.Nat.{◌-◌}
 use Rattle.stages.specs.Definitions.{batch_fits}
 use Rattle.stages.proofs.batch_fits.Goals as goal
 
-pub returns-then-m-n : goal.returns-then-m-n
+pub returns-then-few : goal.returns-then-few
 unfolding batch_fits
-returns-then-m-n c =
+returns-then-few c =
     let a = c.before.before.args in
-    rw (lt-leb _ 1 c.before.if-stage-gt1.true, lt-leb (a.n - a.t) a.m c.if-m-n.true)
+    rw (lt-leb _ 1 c.before.if-stage-gt1.true, lt-leb (a.n - a.t) a.m c.if-few.true)
 
 pub returns-then-stage-gt1 : goal.returns-then-stage-gt1
 unfolding batch_fits
 returns-then-stage-gt1 c =
     let a = c.before.before.before.args in
-    rw (lt-leb _ 1 c.before.before.if-stage-gt1.true, le-leb (a.n - a.t) a.m c.before.if-m-n.false) (ap (eqb a.b) c.batch.ensures)
+    rw (lt-leb _ 1 c.before.before.if-stage-gt1.true, le-leb (a.n - a.t) a.m c.before.if-few.false) (ap (eqb a.b) c.batch.ensures)
 
 pub returns-then-b-eq0 : goal.returns-then-b-eq0
 unfolding batch_fits

@@ -8,7 +8,7 @@ use Rattle.interpolation.proofs.WeightLaws.{differences}
 use Rattle.rows.specs.Definitions.{size, nth, scale}
 use Rattle.interpolation.proofs.WeightLaws.{differences_none, differences_skip, differences_take}
 use Rattle.rows.proofs.Row.scale.Goals as goal
-use Rattle.rows.proofs.Row.scale.Goals.{then-l-i, else-l-i}
+use Rattle.rows.proofs.Row.scale.Goals.{then-apart, else-apart}
 
 pub loop-l-init : goal.loop-l-init
 loop-l-init c = (omega arith, c.before.len-m.ensures, c.item-own.ensures, differences_none _ _ _)
@@ -24,12 +24,12 @@ loop-l-preserved c =
     let l = c.before.before.loop-l in
     let own = c.before.before.before.item-own.result in
     let pt = nth a.self in
-    let next : c.if-l-i.below ≡ differences pt (l.l + 1) a.i own =
-    elim c.if-l-i.branch [
-      | then-l-i w ↦
-          w.below-is ∙ w.mul-below.ensures ∙ ap₂ times l.invariant.3 w.sub.ensures ∙ sym (differences_take pt a.i own l.l w.if-l-i.true)
-      | else-l-i w ↦
-          w.below-is ∙ l.invariant.3 ∙ sym (differences_skip pt a.i own l.l w.if-l-i.false)
+    let next : c.if-apart.below ≡ differences pt (l.l + 1) a.i own =
+    elim c.if-apart.branch [
+      | then-apart w ↦
+          w.below-is ∙ w.mul-below.ensures ∙ ap₂ times l.invariant.3 w.sub.ensures ∙ sym (differences_take pt a.i own l.l w.if-apart.true)
+      | else-apart w ↦
+          w.below-is ∙ l.invariant.3 ∙ sym (differences_skip pt a.i own l.l w.if-apart.false)
     ] in
     (omega arith, l.invariant.1, l.invariant.2, next)
 

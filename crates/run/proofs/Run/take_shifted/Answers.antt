@@ -6,8 +6,8 @@ use Rattle.run.specs.Steps.{after_shifted}
 use Rattle.run.proofs.Numbers.{refused_by, accepted_by}
 use Rattle.run.proofs.Run.take_shifted.Goals as goal
 
-pub returns-then-found-ne0 : goal.returns-then-found-ne0
-returns-then-found-ne0 c = c.answer.ensures ∙ refused_by c.shifted_refusal-found.ensures _ _ c.if-found-ne0.true
+pub returns-then-refused : goal.returns-then-refused
+returns-then-refused c = c.answer.ensures ∙ refused_by c.shifted_refusal-found.ensures _ _ c.if-refused.true
 
 pub returns : goal.returns
 unfolding after_shifted
@@ -15,5 +15,5 @@ returns c =
     let loaded = c.before.before in
     let passed = loaded.before.before in
     c.answer-2.ensures
-    ∙ accepted_by passed.shifted_refusal-found.ensures _ passed.if-found-ne0.false
+    ∙ accepted_by passed.shifted_refusal-found.ensures _ passed.if-refused.false
     (c.challenged.ensures ∙ ap (λ (x : Challenges). set_challenges passed.args.self 4 x) loaded.with_shifted-shifted.ensures)
