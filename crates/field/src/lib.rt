@@ -163,13 +163,15 @@ impl Element {
     pub fn read(x: u32) -> Reading
         ensures { result ≡ read_element x }
     {
-        if x == 0 {
+        let none = x == 0;
+        if none {
             return Reading::NoElement;
         }
         if Element::MODULUS <= x {
             return Reading::NoElement;
         }
-        if x == 1 {
+        let one = x == 1;
+        if one {
             return Reading::Identity;
         }
         if power_of(Element::MODULUS, x, Scalar::MODULUS) == 1 {

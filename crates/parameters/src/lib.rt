@@ -22,13 +22,16 @@ pub const CELLS: usize = PLACES / 2;
 pub fn in_bounds(n: u8, t: u8, a: u8) -> bool
     ensures { result ≡ in_bounds n t a }
 {
-    if t < 1 {
+    let none = t < 1;
+    if none {
         return false;
     }
-    if a < 1 {
+    let unpacked = a < 1;
+    if unpacked {
         return false;
     }
-    if MOST_PARTIES < n {
+    let many = MOST_PARTIES < n;
+    if many {
         return false;
     }
     3 * t as u32 + 2 * a as u32 <= n as u32 + 1

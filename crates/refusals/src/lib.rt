@@ -40,7 +40,8 @@ pub fn all_scalars(s: &[u8], at: u16, count: u16) -> bool
 pub fn mask_fits(n: u8, mask: u64) -> bool
     ensures { result ≡ mask_fits n mask }
 {
-    if LAST_BIT < n {
+    let all = LAST_BIT < n;
+    if all {
         return true;
     }
     mask < (1u64 << n)

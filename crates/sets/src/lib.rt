@@ -88,7 +88,8 @@ pub fn bits_set(mask: u64) -> u8
 pub fn size(mask: u64, n: u8) -> u8
     ensures { result ≡ count n (has mask) }
 {
-    if MASK_BITS <= n {
+    let all = MASK_BITS <= n;
+    if all {
         return bits_set(mask);
     }
     bits_set(mask & ((1 << n) - 1))

@@ -66,10 +66,12 @@ pub fn taken_by(tag: u8, stage: u8) -> Handler
 pub fn go_number(n: u8, t: u8, m: u8, b: u8, bytes: &[u8]) -> u8
     ensures { result ≡ go_number n t m b bytes.now }
 {
-    if b != 0 {
+    let fixed = b != 0;
+    if fixed {
         return 11;
     }
-    if bytes.len() != records::GO_LENGTH {
+    let other = bytes.len() != records::GO_LENGTH;
+    if other {
         return 2;
     }
     if n as u16 > m as u16 + t as u16 {

@@ -6,22 +6,22 @@ use lib.Dec.{leb}
 use Rattle.parameters.specs.Definitions.{most_parties, in_bounds}
 use Rattle.parameters.proofs.in_bounds.Goals as goal
 
-pub returns-then-t-lt1 : goal.returns-then-t-lt1
+pub returns-then-none : goal.returns-then-none
 unfolding in_bounds
-returns-then-t-lt1 c =
-    let none : leb 1 c.before.args.t ≡ false = lt-leb 1 _ c.if-t-lt1.true in
+returns-then-none c =
+    let none : leb 1 c.before.args.t ≡ false = lt-leb 1 _ c.if-none.true in
     rw none
 
-pub returns-then-a-lt1 : goal.returns-then-a-lt1
+pub returns-then-unpacked : goal.returns-then-unpacked
 unfolding in_bounds
-returns-then-a-lt1 c =
-    let none : leb 1 c.before.before.args.a ≡ false = lt-leb 1 _ c.if-a-lt1.true in
-    rw (le-leb 1 _ c.before.if-t-lt1.false, none)
+returns-then-unpacked c =
+    let none : leb 1 c.before.before.args.a ≡ false = lt-leb 1 _ c.if-unpacked.true in
+    rw (le-leb 1 _ c.before.if-none.false, none)
 
-pub returns-then-n-gt-MOST_PARTIES : goal.returns-then-n-gt-MOST_PARTIES
+pub returns-then-many : goal.returns-then-many
 unfolding in_bounds
-returns-then-n-gt-MOST_PARTIES c = rw (le-leb 1 _ c.before.before.if-t-lt1.false, le-leb 1 _ c.before.if-a-lt1.false, lt-leb _ most_parties c.if-n-gt-MOST_PARTIES.true)
+returns-then-many c = rw (le-leb 1 _ c.before.before.if-none.false, le-leb 1 _ c.before.if-unpacked.false, lt-leb _ most_parties c.if-many.true)
 
 pub returns : goal.returns
 unfolding in_bounds
-returns c = rw (le-leb 1 _ c.before.before.if-t-lt1.false, le-leb 1 _ c.before.if-a-lt1.false, le-leb _ most_parties c.if-n-gt-MOST_PARTIES.false)
+returns c = rw (le-leb 1 _ c.before.before.if-none.false, le-leb 1 _ c.before.if-unpacked.false, le-leb _ most_parties c.if-many.false)

@@ -9,11 +9,11 @@ use Rattle.sets.proofs.BitLaws.{one_shifted}
 use Rattle.refusals.specs.Refusals.{mask_fits}
 use Rattle.refusals.proofs.mask_fits.Goals as goal
 
-pub returns-then-n-gt-LAST_BIT : goal.returns-then-n-gt-LAST_BIT
+pub returns-then-all : goal.returns-then-all
 unfolding mask_fits
-returns-then-n-gt-LAST_BIT c =
+returns-then-all c =
     let a = c.args in
-    let fits : a.mask < 2 ^ a.n = omega (arith, pow_mono {i = 64} {j = a.n} c.if-n-gt-LAST_BIT.true) in
+    let fits : a.mask < 2 ^ a.n = omega (arith, pow_mono {i = 64} {j = a.n} c.if-all.true) in
     sym (lt-ltb a.mask (2 ^ a.n) fits)
 
 pub returns : goal.returns

@@ -10,11 +10,11 @@ use Rattle.sets.proofs.BitLaws.{one_shifted}
 use Rattle.sets.proofs.Sizes.{size_width, size_low}
 use Rattle.sets.proofs.size.Goals as goal
 
-pub returns-then-n-ge-MASK_BITS : goal.returns-then-n-ge-MASK_BITS
-returns-then-n-ge-MASK_BITS c =
+pub returns-then-all : goal.returns-then-all
+returns-then-all c =
     let b = c.before in
     let a = b.before.args in
-    c.bits_set.ensures ∙ sym (size_width a.n mask_bits a.mask b.if-n-ge-MASK_BITS.true b.before.ranges.mask.fits)
+    c.bits_set.ensures ∙ sym (size_width a.n mask_bits a.mask b.if-all.true b.before.ranges.mask.fits)
 
 pub overflow_sub-n : goal.overflow_sub-n
 overflow_sub-n c = let n = c.before.args.n in omega (arith, one_shifted n (omega arith), pow_pos n)

@@ -9,9 +9,9 @@ use Rattle.field.specs.Definitions.{P, q, power_of, reading_of, read_element}
 use Rattle.field.proofs.Readings.{read_identity}
 use Rattle.field.proofs.Element.read.Goals as goal
 
-pub returns-then-x-eq0 : goal.returns-then-x-eq0
+pub returns-then-none : goal.returns-then-none
 unfolding reading_of read_element
-returns-then-x-eq0 c = rw (le-ltb 0 c.before.args.x (omega arith))
+returns-then-none c = rw (le-ltb 0 c.before.args.x (omega arith))
 
 pub returns-then-x-ge-MODULUS : goal.returns-then-x-ge-MODULUS
 unfolding reading_of read_element P
@@ -21,8 +21,8 @@ returns-then-x-ge-MODULUS c =
     let above : ltb x P ≡ false = le-ltb x P c.if-x-ge-MODULUS.true in
     rw (lt-ltb 0 x p, above)
 
-pub returns-then-x-eq1 : goal.returns-then-x-eq1
-returns-then-x-eq1 c = sym ((read_identity _).1 c.if-x-eq1.true)
+pub returns-then-one : goal.returns-then-one
+returns-then-one c = sym ((read_identity _).1 c.if-one.true)
 
 pub returns-then-power_of-eq1 : goal.returns-then-power_of-eq1
 unfolding reading_of read_element P q
@@ -31,7 +31,7 @@ returns-then-power_of-eq1 c =
     let x = first.before.before.before.args.x in
     let p : 0 < x = omega arith in
     let one : eqb (power_of P x q) 1 ≡ true = eq-eqb _ 1 (sym c.before.power_of.ensures ∙ c.if-power_of-eq1.true) in
-    rw (lt-ltb 0 x p, lt-ltb x P first.before.if-x-ge-MODULUS.false, one, ne_eqb x 1 first.if-x-eq1.false)
+    rw (lt-ltb 0 x p, lt-ltb x P first.before.if-x-ge-MODULUS.false, one, ne_eqb x 1 first.if-one.false)
 
 pub returns : goal.returns
 unfolding reading_of read_element P q
