@@ -102,7 +102,8 @@ pub fn nonce_at(run: Run, u: u8, k: u8) -> Nonce
 pub fn signature_at(run: Run, u: u8, k: u8) -> Signature
     ensures { result ≡ phi_answer run u k }
 {
-    if run.stage_of() != 5 {
+    let early = run.stage_of() != 5;
+    if early {
         return Signature::None;
     }
     if !in_batch(run, u, k) {

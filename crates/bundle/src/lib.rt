@@ -17,7 +17,8 @@ fn row_refusal(run: Run, row: &[u8]) -> u8
     if tag == 0 {
         return 1;
     }
-    if tag != 5 {
+    let other = tag != 5;
+    if other {
         return 11;
     }
     let stage = run.stage_of();
@@ -53,7 +54,8 @@ fn give_rows(run: Run, bytes: &[u8], numbers: &mut [u8]) -> Run
         };
         let row = &rest[..size];
         let mut number = row_refusal(next, row);
-        if number == 0 {
+        let open = number == 0;
+        if open {
             let holder = verification::holder_of(setup, row);
             // the values for every u, once a row passes for the first
             if ready < b {
@@ -81,12 +83,14 @@ fn give_rows(run: Run, bytes: &[u8], numbers: &mut [u8]) -> Run
 pub fn take_rows(run: Run, bytes: &[u8], numbers: &mut [u8]) -> Reply
     ensures { outcome result.run result.number numbers.new ≡ bundled run bytes.now numbers.old }
 {
-    if run.stage_of() != 4 {
+    let other = run.stage_of() != 4;
+    if other {
         return run.answer(11);
     }
     let length = records::response_length(run.b);
     let count = numbers.len();
-    if count != (bytes.len() + (length - 1)) / length {
+    let rows = (bytes.len() + (length - 1)) / length;
+    if count != rows {
         return run.answer(10);
     }
     give_rows(run, bytes, numbers).answer(0)

@@ -81,7 +81,8 @@ pub fn put_closing(out: &mut [u8], at: usize, run: Run) -> usize
 {
     let stage = run.stage_of();
     let mut next = put_sets(out, at, run);
-    if stage == 5 {
+    let done = stage == 5;
+    if done {
         next = put_signatures(out, next, run);
     }
     let numbers = [stage as u32];

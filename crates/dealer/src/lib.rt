@@ -55,7 +55,8 @@ fn setup_refused(n: u8, t: u8, a: u8, s: u32, shares: &[u32], room: usize) -> u8
     if !all_scalars(shares) {
         return 6;
     }
-    if s == 0 {
+    let none = s == 0;
+    if none {
         return 16;
     }
     if room != records::setup_length(t) {

@@ -26,7 +26,8 @@ pub const LONGEST: usize = 65536;
 fn own_length(rest: &[u8]) -> usize
     ensures { result ≡ own_length rest.now }
 {
-    if rest.len() < 6 {
+    let short = rest.len() < 6;
+    if short {
         return 0;
     }
     let t = records::byte(rest, 3);
@@ -37,7 +38,8 @@ fn own_length(rest: &[u8]) -> usize
 fn by_batch(b: u8, length: usize) -> usize
     ensures { result ≡ by_batch b length }
 {
-    if b == 0 { 0 } else { length }
+    let none = b == 0;
+    if none { 0 } else { length }
 }
 
 // The length that a log's next record has by its tag, or 0.
@@ -55,7 +57,8 @@ pub fn record_length(run: Run, rest: &[u8]) -> usize
     if waits {
         return own_length(rest);
     }
-    if stage == 0 {
+    let fresh = stage == 0;
+    if fresh {
         return 0;
     }
     match tag {
@@ -74,10 +77,12 @@ pub fn next_length(run: Run, rest: &[u8]) -> usize
     ensures { result ≡ next_length run rest.now }
 {
     let length = record_length(run, rest);
-    if length < 1 {
+    let unknown = length < 1;
+    if unknown {
         return rest.len();
     }
-    if rest.len() < length {
+    let cut = rest.len() < length;
+    if cut {
         return rest.len();
     }
     length
@@ -122,7 +127,8 @@ fn stretch(rest: &[u8], length: usize) -> usize
             return count;
         }
         let row = &rest[from..];
-        if records::tag(row) != 5 {
+        let other = records::tag(row) != 5;
+        if other {
             return count;
         }
         from += length;
@@ -138,13 +144,15 @@ fn rows_ahead(run: Run, rest: &[u8]) -> usize
     if run.stage != 4 {
         return 0;
     }
-    if run.stage_of() != 4 {
+    let other = run.stage_of() != 4;
+    if other {
         return 0;
     }
     let length = records::response_length(run.b);
     let rows = stretch(rest, length);
     let few = (run.b / 2) as usize;
-    if rows <= few {
+    let single = rows <= few;
+    if single {
         return 0;
     }
     rows
@@ -207,7 +215,8 @@ pub fn report(log: &[u8], out: &mut [u8]) -> usize
     if out.len() < REPORT {
         return 0;
     }
-    if LONGEST < log.len() {
+    let long = LONGEST < log.len();
+    if long {
         return text::put_text(out, 0, b"long\n");
     }
     put_page(log, out)

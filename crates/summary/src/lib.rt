@@ -36,11 +36,8 @@ struct Passage {
 fn fixed_length(passed: usize, bytes: &[u8]) -> usize
     ensures { result ≡ fixed_length passed bytes.now }
 {
-    if records::tag(bytes) == 8 {
-        records::GO_LENGTH
-    } else {
-        passed
-    }
+    let go = records::tag(bytes) == 8;
+    if go { records::GO_LENGTH } else { passed }
 }
 
 // The bytes that a record counts: its fixed length where it is complete.
@@ -123,7 +120,8 @@ pub fn report(log: &[u8], out: &mut [u8]) -> usize
     if out.len() < SHORT {
         return 0;
     }
-    if LONGEST < log.len() {
+    let long = LONGEST < log.len();
+    if long {
         return text::put_text(out, 0, b"long\n");
     }
     put_short(log, out)

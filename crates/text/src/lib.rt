@@ -66,7 +66,8 @@ pub fn put_set(out: &mut [u8], at: usize, word: &[u8], n: u8, mask: u64) -> usiz
             next = put_field(out, next, i as u32 + 1);
         }
     }
-    if next == start {
+    let none = next == start;
+    if none {
         next = put_text(out, next, b" -");
     }
     out[next] = b'\n';

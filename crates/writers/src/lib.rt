@@ -37,7 +37,8 @@ fn wrong_dealers(run: Run, j: u8) -> u64
 fn complaint_refused(run: Run, j: u8, room: usize) -> u8
     ensures { result ≡ complaint_refused run j room }
 {
-    if run.stage_of() != 2 {
+    let other = run.stage_of() != 2;
+    if other {
         return 11;
     }
     if !parameters::is_party(run.setup.n, j) {
@@ -114,7 +115,8 @@ fn shares_refused(run: Run, key: u32, shares: &[u32], room: usize) -> u8
 fn response_refused(run: Run, j: u8, key: u32, shares: &[u32], room: usize) -> u8
     ensures { result ≡ response_refused run j key shares.now room }
 {
-    if run.stage_of() != 4 {
+    let other = run.stage_of() != 4;
+    if other {
         return 11;
     }
     if !parameters::is_party(run.setup.n, j) {

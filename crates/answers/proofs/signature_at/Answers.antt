@@ -38,15 +38,15 @@ placed r u k e h =
     let in-slots : k - 1 < r.setup.a = omega arith in
     (u_pos, k_pos, omega (arith, digits_lt in-batch in-slots, cells_max formed.bounds (formed_batch formed), mul_comm r.setup.a r.b))
 
-pub returns-then-stage_of-ne5 : goal.returns-then-stage_of-ne5
+pub returns-then-early : goal.returns-then-early
 unfolding phi_answer
-returns-then-stage_of-ne5 c =
-    let early : eqb (stage_of c.args.run) 5 ≡ false = is_not c.stage_of.ensures c.if-stage_of-ne5.true in
+returns-then-early c =
+    let early : eqb (stage_of c.args.run) 5 ≡ false = is_not c.stage_of-early.ensures c.if-early.true in
     rw early
 
 -- past the first test the run is at stage 5
 done : (c : lts.Else1 tie.the-claims reads.Pre reads.Post) → stage_of c.args.run ≡ 5
-done c = sym c.stage_of.ensures ∙ c.if-stage_of-ne5.false
+done c = sym c.stage_of-early.ensures ∙ c.if-early.false
 
 pub returns-then-not-in_batch : goal.returns-then-not-in_batch
 unfolding phi_answer

@@ -29,7 +29,7 @@ use Rattle.bundle.proofs.give_rows.Goals as goal
 use Rattle.bundle.proofs.give_rows.Lts as lts
 use Rattle.bundle.proofs.give_rows.Reads as reads
 use Rattle.bundle.proofs.give_rows.Tie as tie
-use Rattle.bundle.proofs.give_rows.Goals.{then-rest-length, else-rest-length, then-ready-b+then-test_row, then-ready-b+else-test_row, else-ready-b, then-number-eq0+then-test_row-2, then-number-eq0+else-test_row-2, else-number-eq0}
+use Rattle.bundle.proofs.give_rows.Goals.{then-rest-length, else-rest-length, then-ready-b+then-test_row, then-ready-b+else-test_row, else-ready-b, then-open+then-test_row-2, then-open+else-test_row-2, else-open}
 
 -- ---- what is known before the rows
 
@@ -145,7 +145,7 @@ extended e =
     ]
 
 tested : (t : lts.After-test_row2 tie.the-claims reads.Pre reads.Post goal.the-invariant-loop-x goal.the-decreases-loop-x) → let l = t.before.before.before.before.before.before.before.before in
-    t.test_row-then-number-eq0.result ≡ passes_at l.loop-x.next (row_at l)
+    t.test_row-then-open.result ≡ passes_at l.loop-x.next (row_at l)
 unfolding all_to
 tested t =
     let e = t.before in
@@ -154,7 +154,7 @@ tested t =
     let r = (start l.before.before).args.run in
     let more = extended e in
     let ready = e.if-ready-b.ready in
-    let answer : t.test_row-then-number-eq0.result ≡ readyPasses l ready = t.test_row-then-number-eq0.ensures r.dealings r.complaints r.challenges refl more.1 refl ∙ as_cut h ready in
+    let answer : t.test_row-then-open.result ≡ readyPasses l ready = t.test_row-then-open.ensures r.dealings r.complaints r.challenges refl more.1 refl ∙ as_cut h ready in
     let kept = l.loop-x.invariant.1.kept in
     answer
     ∙ ⊎_elim (λ whole. ap (readyPasses l) whole) (λ fails. fails ∙ sym (fails_stays _ ready r.b more.0 fails)) more.2
@@ -165,33 +165,33 @@ tested t =
 answered_row : (k : lts.Joined2 tie.the-claims reads.Pre reads.Post goal.the-invariant-loop-x goal.the-decreases-loop-x) →
     let l = k.before.before.before.before.before in
     let r = (start l.before.before).args.run in
-    (step_of l.loop-x.next (row_at l) ≡ record { run = k.if-number-eq0.next; number = k.if-number-eq0.number })
-    × Kept r k.if-number-eq0.next × (k.if-number-eq0.ready ≤ r.b) × (k.if-number-eq0.values ≡ readyValues l k.if-number-eq0.ready)
+    (step_of l.loop-x.next (row_at l) ≡ record { run = k.if-open.next; number = k.if-open.number })
+    × Kept r k.if-open.next × (k.if-open.ready ≤ r.b) × (k.if-open.values ≡ readyValues l k.if-open.ready)
 answered_row k =
     let u = k.before in
     let l = u.before.before.before.before in
     let r = l.loop-x.next in
     let kept = l.loop-x.invariant.1.kept in
-    elim k.if-number-eq0.branch [
-      | then-number-eq0+then-test_row-2 w ↦
-          let e : lts.Joined3 tie.the-claims reads.Pre reads.Post goal.the-invariant-loop-x goal.the-decreases-loop-x = record { before = record { before = record { before = u; if-number-eq0 = w.if-number-eq0 }; holder_of-holder = w.holder_of-holder }; if-ready-b = w.if-ready-b } in
-          let none = sym (asked u) ∙ w.if-number-eq0.true in
-          let next : k.if-number-eq0.next ≡ after_response r (row_at l) = w.next-is ∙ w.with_response-taken.ensures ∙ ap (after_response r) (lent u.before) in (
-            row_taken r (row_at l) kept.late none (sym (tested (record { before = e; test_row-then-number-eq0 = w.test_row-then-number-eq0 })) ∙ w.if-test_row-2.true) ∙ reply (sym next) (sym (w.number-is ∙ w.if-number-eq0.true)),
+    elim k.if-open.branch [
+      | then-open+then-test_row-2 w ↦
+          let e : lts.Joined3 tie.the-claims reads.Pre reads.Post goal.the-invariant-loop-x goal.the-decreases-loop-x = record { before = record { before = record { before = u; if-open = w.if-open }; holder_of-holder = w.holder_of-holder }; if-ready-b = w.if-ready-b } in
+          let none = sym (asked u) ∙ w.if-open.true in
+          let next : k.if-open.next ≡ after_response r (row_at l) = w.next-is ∙ w.with_response-taken.ensures ∙ ap (after_response r) (lent u.before) in (
+            row_taken r (row_at l) kept.late none (sym (tested (record { before = e; test_row-then-open = w.test_row-then-open })) ∙ w.if-test_row-2.true) ∙ reply (sym next) (sym (w.number-is ∙ w.if-open.true)),
             subst⁻¹ (Kept _) next (kept_response kept (row_at l)),
             omega (arith, w.ready-is, (extended e).0),
             w.values-is ∙ (extended e).1 ∙ ap (readyValues l) (sym w.ready-is),
           )
-      | then-number-eq0+else-test_row-2 w ↦
-          let e : lts.Joined3 tie.the-claims reads.Pre reads.Post goal.the-invariant-loop-x goal.the-decreases-loop-x = record { before = record { before = record { before = u; if-number-eq0 = w.if-number-eq0 }; holder_of-holder = w.holder_of-holder }; if-ready-b = w.if-ready-b } in
-          let none = sym (asked u) ∙ w.if-number-eq0.true in (
-            row_refused r (row_at l) kept.late none (sym (tested (record { before = e; test_row-then-number-eq0 = w.test_row-then-number-eq0 })) ∙ w.if-test_row-2.false) ∙ reply (sym w.next-is) (sym w.number-is),
+      | then-open+else-test_row-2 w ↦
+          let e : lts.Joined3 tie.the-claims reads.Pre reads.Post goal.the-invariant-loop-x goal.the-decreases-loop-x = record { before = record { before = record { before = u; if-open = w.if-open }; holder_of-holder = w.holder_of-holder }; if-ready-b = w.if-ready-b } in
+          let none = sym (asked u) ∙ w.if-open.true in (
+            row_refused r (row_at l) kept.late none (sym (tested (record { before = e; test_row-then-open = w.test_row-then-open })) ∙ w.if-test_row-2.false) ∙ reply (sym w.next-is) (sym w.number-is),
             subst⁻¹ (Kept _) w.next-is kept,
             omega (arith, w.ready-is, (extended e).0),
             w.values-is ∙ (extended e).1 ∙ ap (readyValues l) (sym w.ready-is),
           )
-      | else-number-eq0 w ↦ (
-        untaken_refused r (row_at l) (λ e. w.if-number-eq0.false (asked u ∙ e)) ∙ reply (sym w.next-is) (sym (w.number-is ∙ asked u)),
+      | else-open w ↦ (
+        untaken_refused r (row_at l) (λ e. w.if-open.false (asked u ∙ e)) ∙ reply (sym w.next-is) (sym (w.number-is ∙ asked u)),
         subst⁻¹ (Kept _) w.next-is kept,
         omega (arith, w.ready-is, l.loop-x.invariant.2),
         w.values-is ∙ l.loop-x.invariant.3 ∙ ap (readyValues l) (sym w.ready-is),
@@ -254,8 +254,8 @@ test_row-requires c =
 pub qual_values-all-requires : goal.qual_values-all-requires
 qual_values-all-requires c = testable c.before.before.before.before (omega arith)
 
-pub test_row-requires-then-number-eq0 : goal.test_row-requires-then-number-eq0
-test_row-requires-then-number-eq0 c =
+pub test_row-requires-then-open : goal.test_row-requires-then-open
+test_row-requires-then-open c =
     let asked = testable c.before.before (extended c.before).0 in
     (asked.0, omega arith, asked.1, c.holder_of-holder.ensures)
 
@@ -264,7 +264,7 @@ with_response-taken-requires c =
     let t = c.before.before.before.before in
     let u = t.before in
     let l = u.before.before.before.before.before in
-    (stage_live l.loop-x.next 4 (only_row l.loop-x.next _ l.loop-x.invariant.1.kept.late (sym (asked u.before) ∙ t.if-number-eq0.true)).0 (omega arith) (omega arith)).1
+    (stage_live l.loop-x.next 4 (only_row l.loop-x.next _ l.loop-x.invariant.1.kept.late (sym (asked u.before) ∙ t.if-open.true)).0 (omega arith) (omega arith)).1
 
 pub bounds-numbers-x : goal.bounds-numbers-x
 bounds-numbers-x c =

@@ -16,16 +16,16 @@ returns-then-tag-eq0 c =
     let a = t.args in
     sym (by_unknown a.run a.row.now (sym t.tag-tag.ensures ∙ c.if-tag-eq0.true))
 
-pub returns-then-tag-ne5 : goal.returns-then-tag-ne5
-returns-then-tag-ne5 c =
+pub returns-then-other : goal.returns-then-other
+returns-then-other c =
     let known = c.before in
     let t = known.before in
     let start = t.before.before in
-    sym (by_other start.args.run start.args.row.now start.requires (λ e. known.if-tag-eq0.false (t.tag-tag.ensures ∙ e)) (λ e. c.if-tag-ne5.true (t.tag-tag.ensures ∙ e)))
+    sym (by_other start.args.run start.args.row.now start.requires (λ e. known.if-tag-eq0.false (t.tag-tag.ensures ∙ e)) (λ e. c.if-other.true (t.tag-tag.ensures ∙ e)))
 
 -- an RE
 row_is : (c : lts.Else2 tie.the-claims reads.Pre reads.Post) → let t = c.before.before in code (tag_of t.args.row.now) ≡ 5
-row_is c = sym c.tag-tag.ensures ∙ c.if-tag-ne5.false
+row_is c = sym c.tag-tag.ensures ∙ c.if-other.false
 
 pub returns-then-stage-ne4 : goal.returns-then-stage-ne4
 returns-then-stage-ne4 c =

@@ -21,8 +21,8 @@ left_as e list = ap (λ (y : Reply). outcome y.run y.number list) e
 -- the run is at stage 4
 at_four : (c : lts.Else1 tie.the-claims reads.Pre reads.Post) → stage_of c.args.run ≡ 4
 at_four c =
-    let at : c.stage_of.result ≡ 4 = omega (arith, c.if-stage_of-ne4.false) in
-    sym c.stage_of.ensures ∙ at
+    let at : c.stage_of-other.result ≡ 4 = omega (arith, c.if-other.false) in
+    sym c.stage_of-other.ensures ∙ at
 
 -- the rows as the code counts them
 counted : (c : lts.After-response_length tie.the-claims reads.Pre reads.Post) →
@@ -32,37 +32,37 @@ counted c =
     let a = c.args in
     rows_count a.run.b a.bytes.now ∙ ap (λ (k : ℕ). (length a.bytes.now + (k - 1)) / k) (sym c.response_length-length.ensures)
 
-pub returns-then-stage_of-ne4 : goal.returns-then-stage_of-ne4
-returns-then-stage_of-ne4 c =
+pub returns-then-other : goal.returns-then-other
+returns-then-other c =
     let asked = c.before.before in
     let a = asked.args in
-    left_as c.answer.ensures a.numbers.now ∙ sym (bundle_stage a.run a.bytes.now a.numbers.now (λ e. c.if-stage_of-ne4.true (asked.stage_of.ensures ∙ e)))
+    left_as c.answer.ensures a.numbers.now ∙ sym (bundle_stage a.run a.bytes.now a.numbers.now (λ e. c.if-other.true (asked.stage_of-other.ensures ∙ e)))
 
-pub overflow_sub-length : goal.overflow_sub-length
+pub overflow_sub-rows : goal.overflow_sub-rows
 unfolding response_length
-overflow_sub-length c = omega (arith, c.response_length-length.ensures)
+overflow_sub-rows c = omega (arith, c.response_length-length.ensures)
 
-pub overflow_add-bytes : goal.overflow_add-bytes
+pub overflow_add-rows : goal.overflow_add-rows
 unfolding response_length
-overflow_add-bytes c =
+overflow_add-rows c =
     let start = c.before.before.before.before.before in
     omega (arith, c.response_length-length.ensures, start.well_formed.1.0.0)
 
-pub nonzero_div-bytes : goal.nonzero_div-bytes
+pub nonzero_div-rows : goal.nonzero_div-rows
 unfolding response_length
-nonzero_div-bytes c = omega (arith, c.response_length-length.ensures)
+nonzero_div-rows c = omega (arith, c.response_length-length.ensures)
 
-pub returns-then-count-bytes : goal.returns-then-count-bytes
-returns-then-count-bytes c =
+pub returns-then-count-rows : goal.returns-then-count-rows
+returns-then-count-rows c =
     let m = c.before.before in
     let a = m.args in
-    left_as c.answer-then-count-bytes.ensures a.numbers.now ∙ sym (bundle_places a.run a.bytes.now a.numbers.now (at_four m.before.before) (λ e. c.if-count-bytes.true (e ∙ counted m.before)))
+    left_as c.answer-then-count-rows.ensures a.numbers.now ∙ sym (bundle_places a.run a.bytes.now a.numbers.now (at_four m.before.before) (λ e. c.if-count-rows.true (e ∙ counted m.before)))
 
 -- one place a row
 placed : (c : lts.Else2 tie.the-claims reads.Pre reads.Post) →
     let a = c.args in
     length a.numbers.now ≡ length (rows_of a.run.b a.bytes.now)
-placed c = c.if-count-bytes.false ∙ sym (counted c.before)
+placed c = c.if-count-rows.false ∙ sym (counted c.before)
 
 pub give_rows-requires : goal.give_rows-requires
 give_rows-requires c = (at_four c.before.before.before.before, placed c.before.before)

@@ -14,7 +14,7 @@ use Rattle.run.specs.RunLaws.{stage_live}
 use Rattle.closing.specs.Closing.{most_sets, most_lines, signature_lines, closing}
 use Rattle.closing.proofs.LengthLaws.{signed_max, sets_max}
 use Rattle.closing.proofs.put_closing.Goals as goal
-use Rattle.closing.proofs.put_closing.Goals.{then-stage-eq5, else-stage-eq5}
+use Rattle.closing.proofs.put_closing.Goals.{then-done, else-done}
 use Rattle.closing.proofs.put_closing.Lts as lts
 use Rattle.closing.proofs.put_closing.Reads as reads
 use Rattle.closing.proofs.put_closing.Tie as tie
@@ -40,7 +40,7 @@ put_signatures-next-requires c =
     let g = p.before.before in
     let s = g.before.before in
     let r = s.args.run in (
-      (stage_live r 5 (sym g.stage_of-stage.ensures ∙ c.if-stage-eq5.true) (omega arith) (omega arith)).1,
+      (stage_live r 5 (sym g.stage_of-stage.ensures ∙ c.if-done.true) (omega arith) (omega arith)).1,
       omega (arith, sets_room p, s.requires.1),
     )
 
@@ -48,21 +48,21 @@ put_signatures-next-requires c =
 signed : (c : lts.Joined1 tie.the-claims reads.Pre reads.Post) →
     let p = c.before.before.before in
     let r = p.args.run in
-    Wrote p.put_sets-next.new.out c.if-stage-eq5.out p.put_sets-next.result c.if-stage-eq5.next
+    Wrote p.put_sets-next.new.out c.if-done.out p.put_sets-next.result c.if-done.next
     (pick (eqb (stage_of r) 5) (signature_lines r (r.setup.a * r.b)) [])
 signed c =
     let g = c.before.before.before.before.before in
-    elim c.if-stage-eq5.branch [
-      | then-stage-eq5 w ↦
-          rw (w.out-is, w.next-is, ← g.stage_of-stage.ensures, eq-eqb _ _ w.if-stage-eq5.true) w.put_signatures-next.ensures
-      | else-stage-eq5 w ↦
-          rw (w.out-is, w.next-is, ← g.stage_of-stage.ensures, ne_eqb _ _ w.if-stage-eq5.false) (wrote_none _ _)
+    elim c.if-done.branch [
+      | then-done w ↦
+          rw (w.out-is, w.next-is, ← g.stage_of-stage.ensures, eq-eqb _ _ w.if-done.true) w.put_signatures-next.ensures
+      | else-done w ↦
+          rw (w.out-is, w.next-is, ← g.stage_of-stage.ensures, ne_eqb _ _ w.if-done.false) (wrote_none _ _)
     ]
 
 -- and there is room for the last line
 last_room : (c : lts.Joined1 tie.the-claims reads.Pre reads.Post) →
     let a = c.args in
-    (length c.if-stage-eq5.out ≡ length a.out.now) × (c.if-stage-eq5.next ≤ a.at + most_sets + most_lines)
+    (length c.if-done.out ≡ length a.out.now) × (c.if-done.next ≤ a.at + most_sets + most_lines)
 last_room c =
     let p = c.before.before.before in
     let r = p.args.run in (

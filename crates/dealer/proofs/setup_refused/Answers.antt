@@ -56,13 +56,13 @@ settled c =
     let key = c.before.before in
     sym (require_true _ 6 _ (counted _ key.if-shares-t.false (holds c.all_scalars.ensures (ap not c.if-not-all_scalars.false)))) ∙ scalar key
 
-pub returns-then-s-eq0 : goal.returns-then-s-eq0
-returns-then-s-eq0 c = sym (require_false _ 16 _ (le-ltb 0 _ (le_of_eq c.if-s-eq0.true))) ∙ settled c.before.before
+pub returns-then-none : goal.returns-then-none
+returns-then-none c = sym (require_false _ 16 _ (le-ltb 0 _ (le_of_eq c.if-none.true))) ∙ settled c.before.before
 
 -- all but the room is
 roomed : (c : lts.Else5 tie.the-claims reads.Pre reads.Post) → let a = c.args in
     require (eqb a.room (setup_length a.t)) 9 0 ≡ setup_refused a.n a.t a.a a.s a.shares.now a.room
-roomed c = sym (require_true _ 16 _ (lt-ltb 0 _ (pos_of_ne-zero c.if-s-eq0.false))) ∙ settled c.before
+roomed c = sym (require_true _ 16 _ (lt-ltb 0 _ (pos_of_ne-zero c.if-none.false))) ∙ settled c.before
 
 pub returns-then-room-setup_length : goal.returns-then-room-setup_length
 returns-then-room-setup_length c = sym (require_false _ 9 0 (differs c.setup_length.ensures c.if-room-setup_length.true)) ∙ roomed c.before.before.before

@@ -6,10 +6,10 @@ use Rattle.lists.specs.Tests.{pick}
 use Rattle.reader.specs.Cutting.{by_batch}
 use Rattle.reader.proofs.by_batch.Goals as goal
 
-pub returns-then-b-eq0 : goal.returns-then-b-eq0
+pub returns-then-none : goal.returns-then-none
 unfolding by_batch
-returns-then-b-eq0 c = let a = c.args in sym (ap (λ (x : Bool). pick x 0 a.length) (eq-eqb a.b 0 c.if-b-eq0.true))
+returns-then-none c = let a = c.args in sym (ap (λ (x : Bool). pick x 0 a.length) (eq-eqb a.b 0 c.if-none.true))
 
-pub returns-else-b-eq0 : goal.returns-else-b-eq0
+pub returns-else-none : goal.returns-else-none
 unfolding by_batch
-returns-else-b-eq0 c = let a = c.args in sym (ap (λ (x : Bool). pick x 0 a.length) (ne_eqb a.b 0 c.if-b-eq0.false))
+returns-else-none c = let a = c.args in sym (ap (λ (x : Bool). pick x 0 a.length) (ne_eqb a.b 0 c.if-none.false))

@@ -9,9 +9,9 @@ use Rattle.records.specs.Tags.{setup_length}
 use Rattle.reader.specs.Cutting.{own_length}
 use Rattle.reader.proofs.own_length.Goals as goal
 
-pub returns-then-rest-lt6 : goal.returns-then-rest-lt6
+pub returns-then-short : goal.returns-then-short
 unfolding own_length
-returns-then-rest-lt6 c = rw (lt-leb 6 _ c.if-rest-lt6.true)
+returns-then-short c = rw (lt-leb 6 _ c.if-short.true)
 
 pub returns : goal.returns
 unfolding own_length
@@ -20,4 +20,4 @@ returns c =
     let s = start.args.rest.now in
     c.setup_length.ensures
     ∙ ap setup_length c.byte-t.ensures
-    ∙ sym (ap (λ (x : Bool). pick x (setup_length (byte_at s 3)) 0) (le-leb 6 (length s) start.if-rest-lt6.false))
+    ∙ sym (ap (λ (x : Bool). pick x (setup_length (byte_at s 3)) 0) (le-leb 6 (length s) start.if-short.false))

@@ -48,42 +48,42 @@ returns-then-waits c =
     let t = c.before.before.before in
     c.own_length-then-waits.ensures ∙ rw (tag_is (tag_of t.args.rest.now) SX t.tag-tag.ensures c.if-waits.true) refl
 
-pub returns-then-stage-eq0 : goal.returns-then-stage-eq0
+pub returns-then-fresh : goal.returns-then-fresh
 unfolding length_of
-returns-then-stage-eq0 c =
+returns-then-fresh c =
     let t = c.before.before.before in
     let a = t.args in
-    sym (none_yet (tag_of a.rest.now) a.run a.rest.now (λ e. c.if-tag-eq1.false (t.tag-tag.ensures ∙ ap code e)) (λ e. c.if-waits.false (t.tag-tag.ensures ∙ ap code e)) c.if-stage-eq0.true)
+    sym (none_yet (tag_of a.rest.now) a.run a.rest.now (λ e. c.if-tag-eq1.false (t.tag-tag.ensures ∙ ap code e)) (λ e. c.if-waits.false (t.tag-tag.ensures ∙ ap code e)) c.if-fresh.true)
 
 pub returns-in-2 : goal.returns-in-2
 unfolding length_at
-returns-in-2 c = by_tag c.before.before.before.before.before.before DE c.in-2.is c.if-stage-eq0.false c.dealing_length.ensures refl
+returns-in-2 c = by_tag c.before.before.before.before.before.before DE c.in-2.is c.if-fresh.false c.dealing_length.ensures refl
 
 pub returns-in-3 : goal.returns-in-3
 unfolding length_at
-returns-in-3 c = by_tag c.before.before.before.before.before.before VE c.in-3.is c.if-stage-eq0.false c.complaint_length.ensures refl
+returns-in-3 c = by_tag c.before.before.before.before.before.before VE c.in-3.is c.if-fresh.false c.complaint_length.ensures refl
 
 pub returns-in-4 : goal.returns-in-4
 unfolding length_at
 returns-in-4 c =
     let m = c.before.before in
-    by_tag m.before.before.before.before.before CH m.in-4.is m.if-stage-eq0.false (c.by_batch.ensures ∙ ap (by_batch _) c.challenges_length.ensures) refl
+    by_tag m.before.before.before.before.before CH m.in-4.is m.if-fresh.false (c.by_batch.ensures ∙ ap (by_batch _) c.challenges_length.ensures) refl
 
 pub returns-in-5 : goal.returns-in-5
 unfolding length_at
 returns-in-5 c =
     let m = c.before.before in
-    by_tag m.before.before.before.before.before RE m.in-5.is m.if-stage-eq0.false (c.by_batch-in-5.ensures ∙ ap (by_batch _) c.response_length.ensures) refl
+    by_tag m.before.before.before.before.before RE m.in-5.is m.if-fresh.false (c.by_batch-in-5.ensures ∙ ap (by_batch _) c.response_length.ensures) refl
 
 pub returns-in-6 : goal.returns-in-6
 unfolding length_at
 returns-in-6 c =
     let m = c.before.before in
-    by_tag m.before.before.before.before.before CS m.in-6.is m.if-stage-eq0.false (c.by_batch-in-6.ensures ∙ ap (by_batch _) c.shifted_length.ensures) refl
+    by_tag m.before.before.before.before.before CS m.in-6.is m.if-fresh.false (c.by_batch-in-6.ensures ∙ ap (by_batch _) c.shifted_length.ensures) refl
 
 pub returns-in-8 : goal.returns-in-8
 unfolding length_at
-returns-in-8 c = by_tag c.before.before.before.before.before GO c.in-8.is c.if-stage-eq0.false refl refl
+returns-in-8 c = by_tag c.before.before.before.before.before GO c.in-8.is c.if-fresh.false refl refl
 
 pub returns-in_default : goal.returns-in_default
 unfolding length_of length_at

@@ -17,11 +17,11 @@ returns-then-run-ne4 c =
     let a = c.args in
     sym (rows_elsewhere a.run a.rest.now (λ e. c.if-run-ne4.true (stage_live a.run 4 e (omega arith) (omega arith)).0))
 
-pub returns-then-stage_of-ne4 : goal.returns-then-stage_of-ne4
-returns-then-stage_of-ne4 c =
+pub returns-then-other : goal.returns-then-other
+returns-then-other c =
     let asked = c.before in
     let a = asked.args in
-    sym (rows_elsewhere a.run a.rest.now (λ e. c.if-stage_of-ne4.true (asked.stage_of.ensures ∙ e)))
+    sym (rows_elsewhere a.run a.rest.now (λ e. c.if-other.true (asked.stage_of-other.ensures ∙ e)))
 
 pub stretch-rows-requires : goal.stretch-rows-requires
 unfolding response_length
@@ -33,8 +33,8 @@ asked_by c = c.before.before.before
 
 four_is : (c : lts.After-stretch tie.the-claims reads.Pre reads.Post) → stage_of (asked_by c).before.args.run ≡ 4
 four_is c =
-    let at : (asked_by c).stage_of.result ≡ 4 = omega (arith, c.if-stage_of-ne4.false) in
-    sym (asked_by c).stage_of.ensures ∙ at
+    let at : (asked_by c).stage_of-other.result ≡ 4 = omega (arith, c.if-other.false) in
+    sym (asked_by c).stage_of-other.ensures ∙ at
 
 counted : (c : lts.After-stretch tie.the-claims reads.Pre reads.Post) → let a = (asked_by c).before.args in
     c.stretch-rows.result ≡ stretch_of most_rows (response_length a.run.b) a.rest.now
@@ -42,14 +42,14 @@ counted c =
     let a = (asked_by c).before.args in
     c.stretch-rows.ensures ∙ ap (λ (k : ℕ). stretch_of most_rows k a.rest.now) c.response_length-length.ensures
 
-pub returns-then-rows-few : goal.returns-then-rows-few
-returns-then-rows-few c =
+pub returns-then-single : goal.returns-then-single
+returns-then-single c =
     let s = c.before.before in
     let a = (asked_by s.before).before.args in
-    sym (rows_few a.run a.rest.now (four_is s.before) (omega (arith, counted s.before, c.if-rows-few.true)))
+    sym (rows_few a.run a.rest.now (four_is s.before) (omega (arith, counted s.before, c.if-single.true)))
 
 pub returns : goal.returns
 returns c =
     let s = c.before.before in
     let a = (asked_by s.before).before.args in
-    counted s.before ∙ sym (rows_many a.run a.rest.now (four_is s.before) (omega (arith, counted s.before, c.if-rows-few.false)))
+    counted s.before ∙ sym (rows_many a.run a.rest.now (four_is s.before) (omega (arith, counted s.before, c.if-single.false)))

@@ -22,10 +22,10 @@ loop-count-init c = (omega arith, omega arith)
 -- the tag as the code reads it
 read : (c : lts.After-tag tie.the-claims reads.Pre reads.Post goal.the-invariant-loop-count goal.the-decreases-loop-count) →
     let l = c.before.before.before.before in
-    c.tag.result ≡ code (tag_of (drop l.loop-count.from l.args.rest.now))
+    c.tag-other.result ≡ code (tag_of (drop l.loop-count.from l.args.rest.now))
 read c =
     let l = c.before.before.before.before in
-    c.tag.ensures ∙ ap (λ (s : List ℕ). code (tag_of s)) (left_is l.args.rest.now l.loop-count.from)
+    c.tag-other.ensures ∙ ap (λ (s : List ℕ). code (tag_of s)) (left_is l.args.rest.now l.loop-count.from)
 
 pub returns-then-rest-from : goal.returns-then-rest-from
 returns-then-rest-from c =
@@ -38,13 +38,13 @@ returns-then-rest-from c =
 pub slice_bounds-row-end : goal.slice_bounds-row-end
 slice_bounds-row-end c = omega arith
 
-pub returns-then-tag-ne5 : goal.returns-then-tag-ne5
-returns-then-tag-ne5 c =
+pub returns-then-other : goal.returns-then-other
+returns-then-other c =
     let t = c.before in
     let l = t.before.before.before.before in
     let a = l.args in
     let d = drop l.loop-count.from a.rest.now in
-    let other : is_row d ≡ false = ne_eqb _ _ (λ e. c.if-tag-ne5.true (read t.before ∙ e)) in
+    let other : is_row d ≡ false = ne_eqb _ _ (λ e. c.if-other.true (read t.before ∙ e)) in
     omega (arith, l.loop-count.invariant.1, stretch_none (most_rows - l.loop-count.count) a.length d other)
 
 pub overflow_add-from : goal.overflow_add-from
@@ -61,7 +61,7 @@ loop-count-preserved c =
     let a = l.args in
     let s = a.rest.now in
     let d = drop l.loop-count.from s in
-    let tag : t.tag.result ≡ 5 = omega (arith, c.if-tag-ne5.false) in
+    let tag : t.tag-other.result ≡ 5 = omega (arith, c.if-other.false) in
     let more : l.loop-count.count + 1 ≤ most_rows = omega (arith, i.loop-count-test.true) in
     let left : most_rows - l.loop-count.count - 1 ≡ most_rows - (l.loop-count.count + 1) = omega arith in
     let row : is_row d ≡ true = eq-eqb _ _ (sym (read t.before) ∙ tag) in

@@ -7,14 +7,14 @@ use Rattle.records.specs.Tags.{go_length}
 use Rattle.summary.specs.Consumed.{fixed_length}
 use Rattle.summary.proofs.fixed_length.Goals as goal
 
-pub returns-then-tag-eq8 : goal.returns-then-tag-eq8
+pub returns-then-go : goal.returns-then-go
 unfolding fixed_length
-returns-then-tag-eq8 c =
+returns-then-go c =
     let t = c.before in
-    sym (ap (λ (x : Bool). pick x go_length t.args.passed) (is t.tag.ensures c.if-tag-eq8.true))
+    sym (ap (λ (x : Bool). pick x go_length t.args.passed) (is t.tag-go.ensures c.if-go.true))
 
-pub returns-else-tag-eq8 : goal.returns-else-tag-eq8
+pub returns-else-go : goal.returns-else-go
 unfolding fixed_length
-returns-else-tag-eq8 c =
+returns-else-go c =
     let t = c.before in
-    sym (ap (λ (x : Bool). pick x go_length t.args.passed) (is_not t.tag.ensures c.if-tag-eq8.false))
+    sym (ap (λ (x : Bool). pick x go_length t.args.passed) (is_not t.tag-go.ensures c.if-go.false))

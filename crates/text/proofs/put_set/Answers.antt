@@ -11,7 +11,7 @@ use Rattle.text.specs.Texts.{Wrote}
 use Rattle.text.proofs.TextLaws.{wrote_none, wrote_length, wrote_byte, wrote_append}
 use Rattle.text.proofs.LineLaws.{fields_snoc, fields_max, set_text_none, set_text_some, set_text_max}
 use Rattle.text.proofs.put_set.Goals as goal
-use Rattle.text.proofs.put_set.Goals.{then-has, else-has, then-next-start, else-next-start}
+use Rattle.text.proofs.put_set.Goals.{then-has, else-has, then-none, else-none}
 use Rattle.text.proofs.put_set.Lts as lts
 use Rattle.text.proofs.put_set.Reads as reads
 use Rattle.text.proofs.put_set.Tie as tie
@@ -68,24 +68,24 @@ some {l} {m} {i} {n} set w d = subst⁻¹ (λ (t : List ℕ). Wrote l m i n t) (
 texted : (c : lts.Joined2 tie.the-claims reads.Pre reads.Post goal.the-invariant-loop-i goal.the-decreases-loop-i) →
     let t = c.before.before.before.before.before in
     let a = t.args in
-    Wrote t.put_text-start.new.out c.if-next-start.out t.put_text-start.result c.if-next-start.next (set_text (members a.n (has a.mask)))
+    Wrote t.put_text-start.new.out c.if-none.out t.put_text-start.result c.if-none.next (set_text (members a.n (has a.mask)))
 texted c =
     let l = c.before.before in
     let t = l.before.before.before in
     let a = t.args in
     let end : l.loop-i.i ≡ a.n = omega arith in
     let w : Wrote t.put_text-start.new.out l.loop-i.out t.put_text-start.result l.loop-i.next (fields (members a.n (has a.mask))) = rw end at l.loop-i.invariant.1 in
-    elim c.if-next-start.branch [
-      | then-next-start y ↦
-          rw (y.out-is, y.next-is) (dash (members a.n (has a.mask)) w y.if-next-start.true y.put_text-next.ensures)
-      | else-next-start y ↦
-          rw (y.out-is, y.next-is) (some (members a.n (has a.mask)) w y.if-next-start.false)
+    elim c.if-none.branch [
+      | then-none y ↦
+          rw (y.out-is, y.next-is) (dash (members a.n (has a.mask)) w y.if-none.true y.put_text-next.ensures)
+      | else-none y ↦
+          rw (y.out-is, y.next-is) (some (members a.n (has a.mask)) w y.if-none.false)
     ]
 
 -- and there is room for a byte more
 end_room : (c : lts.Joined2 tie.the-claims reads.Pre reads.Post goal.the-invariant-loop-i goal.the-decreases-loop-i) →
     let a = c.args in
-    (length c.if-next-start.out ≡ length a.out.now) × (c.if-next-start.next < length a.out.now)
+    (length c.if-none.out ≡ length a.out.now) × (c.if-none.next < length a.out.now)
 end_room c =
     let t = c.before.before.before.before.before in
     let a = t.args in

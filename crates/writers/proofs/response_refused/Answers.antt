@@ -11,17 +11,17 @@ use Rattle.sets.specs.Masks.{has}
 use Rattle.writers.specs.Writers.{response_refused}
 use Rattle.writers.proofs.response_refused.Goals as goal
 
-pub returns-then-stage_of-ne4 : goal.returns-then-stage_of-ne4
+pub returns-then-other : goal.returns-then-other
 unfolding response_refused require
-returns-then-stage_of-ne4 c =
-    let other : eqb (stage_of c.args.run) 4 ≡ false = is_not c.stage_of.ensures c.if-stage_of-ne4.true in
+returns-then-other c =
+    let other : eqb (stage_of c.args.run) 4 ≡ false = is_not c.stage_of-other.ensures c.if-other.true in
     rw other
 
 pub returns-then-not-is_party : goal.returns-then-not-is_party
 unfolding response_refused require
 returns-then-not-is_party c =
     let stage = c.before.before in
-    rw (is stage.stage_of.ensures stage.if-stage_of-ne4.false, fails c.is_party.ensures (ap not c.if-not-is_party.true))
+    rw (is stage.stage_of-other.ensures stage.if-other.false, fails c.is_party.ensures (ap not c.if-not-is_party.true))
 
 pub returns-then-not-has : goal.returns-then-not-has
 unfolding response_refused require
@@ -30,7 +30,7 @@ returns-then-not-has c =
     let stage = party.before.before in
     let a = stage.args in
     let absent : has a.run.complaints.holders a.j ≡ false = fails c.has.ensures (ap not c.if-not-has.true) in
-    rw (is stage.stage_of.ensures stage.if-stage_of-ne4.false, holds party.is_party.ensures (ap not party.if-not-is_party.false), absent)
+    rw (is stage.stage_of-other.ensures stage.if-other.false, holds party.is_party.ensures (ap not party.if-not-is_party.false), absent)
 
 pub returns : goal.returns
 unfolding response_refused require
@@ -39,7 +39,7 @@ returns c =
     let party = holder.before.before in
     let stage = party.before.before in
     rw (
-      is stage.stage_of.ensures stage.if-stage_of-ne4.false,
+      is stage.stage_of-other.ensures stage.if-other.false,
       holds party.is_party.ensures (ap not party.if-not-is_party.false),
       holds holder.has.ensures (ap not holder.if-not-has.false),
     )
