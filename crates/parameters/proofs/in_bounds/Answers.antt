@@ -1,5 +1,6 @@
 -- `in_bounds` meets its contract: each test settles one factor of the definition. Assumes nothing.
 use borrow.Author.Tests.{le-leb, lt-leb}
+use native.Mathlib.Omega.{arith}
 use mathlib.Core.Path.{◌≡◌}
 use mathlib.Core.Bool.{false}
 use lib.Dec.{leb}
@@ -20,7 +21,7 @@ returns-then-unpacked c =
 
 pub returns-then-many : goal.returns-then-many
 unfolding in_bounds
-returns-then-many c = rw (le-leb 1 _ c.before.before.if-none.false, le-leb 1 _ c.before.if-unpacked.false, lt-leb _ most_parties c.if-many.true)
+returns-then-many c = rw (le-leb 1 _ c.before.before.if-none.false, le-leb 1 _ c.before.if-unpacked.false, lt-leb c.args.n most_parties (omega arith))
 
 pub returns : goal.returns
 unfolding in_bounds

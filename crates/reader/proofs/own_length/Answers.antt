@@ -1,5 +1,6 @@
 -- `own_length` meets its contract. Assumes nothing.
 use borrow.Author.Tests.{le-leb, lt-leb}
+use native.Mathlib.Omega.{arith}
 use mathlib.Core.Path.{sym, ap, ◌∙◌}
 use mathlib.Core.Bool.{Bool}
 use lib.ListN.{length}
@@ -11,7 +12,7 @@ use Rattle.reader.proofs.own_length.Goals as goal
 
 pub returns-then-short : goal.returns-then-short
 unfolding own_length
-returns-then-short c = rw (lt-leb 6 _ c.if-short.true)
+returns-then-short c = rw (lt-leb 6 (length c.args.rest.now) (omega arith))
 
 pub returns : goal.returns
 unfolding own_length

