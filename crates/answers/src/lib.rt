@@ -2,33 +2,25 @@
 #![tactic(auto)]
 
 ghost use Rattle.std.specs.Prelude.{◌≡◌};
-ghost use Rattle.answers.specs.Answers.{unblamed_of, sets_of, in_batch, nonce_of, phi_answer};
+ghost use Rattle.answers.specs.Answers.{unblamed_of, sets_of, shown_sets, in_batch, nonce_of, phi_answer};
 
 use field::{Element, Scalar};
 use run::Run;
 
-// HOLD, QUAL and BAD, once they are fixed.
+// HOLD, QUAL and BAD as masks.
 #[derive(Clone, Copy)]
 pub struct Sets {
-    pub fixed: bool,
     pub hold: u64,
     pub qual: u64,
     pub bad: u64,
 }
 
-// The shifted R(u,k), or none where the run has none.
-#[derive(Clone, Copy)]
-pub enum Nonce {
-    Is(Element),
-    None,
-}
-
-// The shifted φ(u,k), or none where the run has none.
-#[derive(Clone, Copy)]
-pub enum Signature {
-    Is(Scalar),
-    None,
-}
+// No set has a member.
+const EMPTY: Sets = Sets {
+    hold: 0,
+    qual: 0,
+    bad: 0,
+};
 
 // The accepted dealers that no accepted complaint row blames, at any stage; from stage 3 on they are QUAL.
 pub fn unblamed(run: Run) -> u64
@@ -38,56 +30,42 @@ pub fn unblamed(run: Run) -> u64
     complaints.unblamed(run.setup.n, run.dealings.dealers)
 }
 
-// HOLD, QUAL and BAD.
-pub fn sets_of(run: Run) -> Sets
+// HOLD, QUAL and BAD, once they are fixed: from stage 3 on.
+pub fn sets_of(run: Run) -> Option<Sets>
     ensures { result ≡ sets_of run }
 {
     if run.stage_of() < 3 {
-        return Sets {
-            fixed: false,
-            hold: 0,
-            qual: 0,
-            bad: 0,
-        };
+        return None;
     }
     let complaints = run.complaints;
-    Sets {
-        fixed: true,
+    Some(Sets {
         hold: run.complaints.holders,
         qual: unblamed(run),
         bad: complaints.blamed(run.setup.n),
-    }
+    })
+}
+
+// HOLD, QUAL and BAD as they are shown: empty before they are fixed.
+pub fn shown_sets(run: Run) -> Sets
+    ensures { result ≡ shown_sets run }
+{
+    sets_of(run).unwrap_or(EMPTY)
 }
 
 // Whether u is from 1 to b and k from 1 to a.
 fn in_batch(run: Run, u: u8, k: u8) -> bool
     ensures { result ≡ in_batch run u k }
 {
-    if u < 1 {
-        return false;
-    }
-    if run.b < u {
-        return false;
-    }
-    if k < 1 {
-        return false;
-    }
-    k <= run.setup.a
+    (1..=run.b).contains(&u) && (1..=run.setup.a).contains(&k)
 }
 
 // R(u,k) × 4^δ, at stages 3, 4 and 5.
-pub fn nonce_at(run: Run, u: u8, k: u8) -> Nonce
+pub fn nonce_at(run: Run, u: u8, k: u8) -> Option<Element>
     ensures { result ≡ nonce_of run u k }
 {
     let stage = run.stage_of();
-    if stage < 3 {
-        return Nonce::None;
-    }
-    if 5 < stage {
-        return Nonce::None;
-    }
-    if !in_batch(run, u, k) {
-        return Nonce::None;
+    if !(3..=5).contains(&stage) || !in_batch(run, u, k) {
+        return None;
     }
     let setup = run.setup;
     let dealings = run.dealings;
@@ -95,21 +73,18 @@ pub fn nonce_at(run: Run, u: u8, k: u8) -> Nonce
     let x = points::point(1, k);
     let nonce = verification::combined_at(setup, dealings, complaints, u, x);
     let shift = run.challenges.shift;
-    Nonce::Is(nonce.mul(Element::GENERATOR.pow(shift)))
+    Some(nonce.mul(Element::GENERATOR.pow(shift)))
 }
 
 // φ(u,k) + δ, at stage 5.
-pub fn signature_at(run: Run, u: u8, k: u8) -> Signature
+pub fn signature_at(run: Run, u: u8, k: u8) -> Option<Scalar>
     ensures { result ≡ phi_answer run u k }
 {
     let early = run.stage_of() != 5;
-    if early {
-        return Signature::None;
-    }
-    if !in_batch(run, u, k) {
-        return Signature::None;
+    if early || !in_batch(run, u, k) {
+        return None;
     }
     let at = (u - 1) as usize * run.setup.a as usize + (k - 1) as usize;
     let list = run.signatures;
-    Signature::Is(list[at])
+    Some(list[at])
 }

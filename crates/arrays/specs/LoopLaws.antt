@@ -1,12 +1,12 @@
 -- What the loops come to: values stored one a turn into an array of 64, and those of a set's members. Assumes nothing.
-use Rattle.std.specs.Prelude.{◌≡◌, Bool, true, false, List, [], ◌∷◌, ◌++◌, ℕ, ◌+◌, min, length, get_or, set, replicate}
+use Rattle.std.specs.Prelude.{◌≡◌, Bool, true, false, List, [], ◌∷◌, ◌++◌, ℕ, ◌+◌, ◌^◌, ◌<◌, min, length, get_or, set, replicate}
 use Rattle.std.proofs.Common.{sym, ap, ap₂, ◌∙◌, arith, length-append}
 use Rattle.std.proofs.Math.ListN.{get_or-append}
 use Rattle.std.proofs.Math.Seq.{get_or-append_seam}
 use Rattle.lists.specs.Stores.{stored, filled}
 use Rattle.lists.specs.StoreLaws.{stored_none, stored_first, stored_capped, stored_cong, length_filled}
-use Rattle.sets.specs.Masks.{members, count}
-use Rattle.sets.proofs.MemberLaws.{members_next, count_none}
+use Rattle.sets.specs.Masks.{has, members, count}
+use Rattle.sets.proofs.MemberLaws.{members_next, count_none, count_before}
 use Rattle.rows.specs.Definitions.{most_scalars}
 
 -- the array once k values are stored
@@ -39,6 +39,10 @@ module _ {A : Type 0} (d : A) (g : ℕ → A) where
       ∙ ap₂ (λ (r : List A) (y : ℕ). set r (length l) (g y))
       (stored_cong (filled most_scalars d) 0 (length l) _ _ (λ k c. ap g (get_or-append l (x ∷ []) 0 k c)))
       (get_or-append_seam l x [] 0)
+
+-- a member of a set of 64 bits has fewer than 64 before it
+pub member_room : {k : ℕ} {r : Bool} (i set : ℕ) → set < 2 ^ 64 → k ≡ count i (has set) → r ≡ has set (i + 1) → r ≡ true → k < 64
+member_room i set h e p q = omega (arith, e, count_before 64 i set h (sym p ∙ q))
 
 -- once the parties up to i are passed: m is the number of the members among them, and l has g of each
 abbrev pub Passed : {A : Type 0} → A → (ℕ → A) → (ℕ → Bool) → ℕ → ℕ → List A → Type 0

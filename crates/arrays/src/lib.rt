@@ -1,8 +1,10 @@
 // The public values of a committee on flat arrays: the key, the challenges, the values of a set of parties, and the test of a share.
 #![tactic(auto)]
 
-ghost use Rattle.std.specs.Prelude.{◌≡◌, ◌+◌, ◌-◌, min, get_or};
-ghost use Rattle.field.specs.Definitions.{identity, generator, same_element, raise};
+ghost use Rattle.std.specs.Prelude.{◌≡◌, ℕ, ◌+◌, ◌-◌, min, get_or};
+ghost use Rattle.lists.specs.Stores.{stored};
+ghost use Rattle.field.specs.Definitions.{scalar, element, identity, generator, same_element, raise};
+ghost use Rattle.records.specs.Bytes.{word};
 ghost use Rattle.rows.specs.Definitions.{most_scalars, product_of};
 ghost use Rattle.arrays.specs.Arrays.{challenge_in, member_points, member_numbers, elements, scalars};
 
@@ -24,6 +26,60 @@ pub fn capped(count: usize) -> usize
     if count < ROW { count } else { ROW }
 }
 
+// What a list has at a place, and `other` past its end.
+pub fn item_or<T: Copy>(list: &[T], at: usize, other: T) -> T
+    ensures { result ≡ get_or list.now at other }
+{
+    let within = at < list.len();
+    if within { list[at] } else { other }
+}
+
+// What a record's numbers are read as: scalars or elements.
+pub trait Kind: Copy {
+    // What a number is.
+    ghost of_number: { ℕ → Self };
+
+    fn of(x: u32) -> Self
+        ensures { result ≡ of_number x };
+}
+
+impl Kind for Scalar {
+    ghost of_number = { scalar };
+
+    fn of(x: u32) -> Scalar {
+        Scalar(x)
+    }
+}
+
+impl Kind for Element {
+    ghost of_number = { element };
+
+    fn of(x: u32) -> Element {
+        Element(x)
+    }
+}
+
+// The list with numbers of a record, count of them from a place of it on, stored from `base` on; none past the list's end.
+pub fn with_numbers<T: Kind, const N: usize>(
+    list: [T; N],
+    base: u16,
+    bytes: &[u8],
+    from: u16,
+    count: u16,
+) -> [T; N]
+    ensures { result ≡ stored list base count (λ v. T.of_number (word bytes.now from v)) }
+{
+    let mut next = list;
+    for v in 0..count {
+        let at = base as usize + v as usize;
+        let kept = at < N;
+        if kept {
+            next[at] = T::of(records::word(bytes, from, v));
+        }
+    }
+    next
+}
+
 // Whether a share for j is valid (right, in document 01) under committed values: the weights are those of the committed points at j.
 pub fn share_fits(weights: Row, values: [Element; ROW], share: Scalar) -> bool
     ensures { result ≡ same_element (raise generator share) (product_of weights values) }
@@ -40,9 +96,9 @@ pub fn key_values(key: [Element; PARTIES], t: u8, a: u8) -> [Element; ROW]
     let packed = a as usize;
     let m = capped(t as usize + packed);
     let mut values = [Element::ONE; ROW];
-    for v in 0..m {
+    for (v, value) in values[..m].iter_mut().enumerate() {
         let j = if v < packed { 0 } else { v + 1 - packed };
-        values[v] = if j < PARTIES { key[j] } else { Element::ONE };
+        *value = item_or(&key, j, Element::ONE);
     }
     values
 }
@@ -54,9 +110,9 @@ pub fn challenge_values(list: [Scalar; CELLS], a: u8, u: u8) -> [Scalar; ROW]
     let m = capped(a as usize);
     let start = predecessor(u) as usize * a as usize;
     let mut values = [Scalar::ZERO; ROW];
-    for v in 0..m {
+    for (v, value) in values[..m].iter_mut().enumerate() {
         let at = start + v;
-        values[v] = if at < CELLS { list[at] } else { Scalar::ZERO };
+        *value = item_or(&list, at, Scalar::ZERO);
     }
     values
 }
@@ -89,11 +145,7 @@ pub fn member_numbers(n: u8, set: u64, numbers: [Scalar; PLACES], u: u8) -> [Sca
     for i in 0..n {
         if sets::has(set, i + 1) {
             let at = i as usize * STRIDE + before;
-            values[count] = if at < PLACES {
-                numbers[at]
-            } else {
-                Scalar::ZERO
-            };
+            values[count] = item_or(&numbers, at, Scalar::ZERO);
             count += 1;
         }
     }

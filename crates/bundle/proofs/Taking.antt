@@ -8,7 +8,7 @@ use native.Mathlib.Decide.{dec_lt}
 use lib.ListN.{length, take, drop, set, length-set, length-drop, drop_of_length-le}
 use lib.Seq.{take_all, take-suc-set}
 use Rattle.run.specs.declared.Run.{Run}
-use Rattle.run.specs.declared.Reply.{Reply}
+use Rattle.run.specs.Steps.{Reply}
 use Rattle.run.specs.Runs.{stage_of}
 use Rattle.run.specs.Steps.{step_of, after_from}
 use Rattle.bundle.specs.Bundles.{numbers_from}

@@ -1,33 +1,13 @@
 // A bundle of response rows (a sheaf, in document 02), given to a run in one call.
 #![tactic(auto)]
 
-ghost use Rattle.std.specs.Prelude.{◌≡◌, ◌≤◌, length};
+ghost use Rattle.std.specs.Prelude.{◌≡◌, length};
 ghost use Rattle.run.specs.Runs.{stage_of};
-ghost use Rattle.run.specs.Steps.{untaken};
+ghost use Rattle.run.specs.Steps.{reply_of};
 ghost use Rattle.bundle.specs.Bundles.{outcome, rows_of, given, bundled};
 
-use run::{Reply, Run};
-
-// The refusal of a row, at stage 4 or past it, that needs no test of its numbers, or 0.
-fn row_refusal(run: Run, row: &[u8]) -> u8
-    requires { 4 ≤ stage_of run }
-    ensures { result ≡ untaken run row.now }
-{
-    let tag = records::tag(row);
-    if tag == 0 {
-        return 1;
-    }
-    let other = tag != 5;
-    if other {
-        return 11;
-    }
-    let stage = run.stage_of();
-    if stage != 4 {
-        return 11;
-    }
-    let holders = run.complaints.holders;
-    response::untested(run.setup.n, run.b, run.responses.responders, holders, row)
-}
+use refusals::Refusal;
+use run::Run;
 
 // The run after the rows of a bundle, given one by one, and their numbers in a list that has a place for each.
 fn give_rows(run: Run, bytes: &[u8], numbers: &mut [u8]) -> Run
@@ -53,7 +33,7 @@ fn give_rows(run: Run, bytes: &[u8], numbers: &mut [u8]) -> Run
             length
         };
         let row = &rest[..size];
-        let mut number = row_refusal(next, row);
+        let mut number = refusals::number_of(next.untaken(row));
         let open = number == 0;
         if open {
             let holder = verification::holder_of(setup, row);
@@ -69,7 +49,7 @@ fn give_rows(run: Run, bytes: &[u8], numbers: &mut [u8]) -> Run
                 let taken = next.with_response(row);
                 next = taken;
             } else {
-                number = 15;
+                number = Refusal::FailedResponse.number();
             }
         }
         numbers[x] = number;
@@ -80,18 +60,18 @@ fn give_rows(run: Run, bytes: &[u8], numbers: &mut [u8]) -> Run
 
 // Response rows end to end, cut every 4+4b bytes whatever tags they bear, the last perhaps short. The list has a place a row and receives the number
 // that each is answered with. Refused at another stage than 4 with 11, then with a list of another length with 10.
-pub fn take_rows(run: Run, bytes: &[u8], numbers: &mut [u8]) -> Reply
-    ensures { outcome result.run result.number numbers.new ≡ bundled run bytes.now numbers.old }
+pub fn take_rows(run: Run, bytes: &[u8], numbers: &mut [u8]) -> Result<Run, Refusal>
+    ensures { outcome (reply_of run result).run (reply_of run result).number numbers.new ≡ bundled run bytes.now numbers.old }
 {
     let other = run.stage_of() != 4;
     if other {
-        return run.answer(11);
+        return Err(Refusal::WrongStage);
     }
     let length = records::response_length(run.b);
     let count = numbers.len();
     let rows = (bytes.len() + (length - 1)) / length;
     if count != rows {
-        return run.answer(10);
+        return Err(Refusal::WrongCount);
     }
-    give_rows(run, bytes, numbers).answer(0)
+    Ok(give_rows(run, bytes, numbers))
 }

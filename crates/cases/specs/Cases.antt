@@ -11,7 +11,7 @@ use Rattle.protocol.specs.Transcript.{shifted_nonce}
 use Rattle.run.specs.declared.Run.{Run}
 use Rattle.run.specs.Runs.{transcript_of, kept}
 use Rattle.run.specs.Steps.{step_of, after}
-use Rattle.answers.specs.Answers.{sets_of}
+use Rattle.answers.specs.Answers.{shown_sets}
 use Rattle.dealer.specs.Dealt.{setup_refused}
 use Rattle.reader.specs.Report.{report_of}
 use Rattle.cases.specs.Opened.{opened}
@@ -121,7 +121,7 @@ dealt_by33 = setup 33 1 1 (4 ∷ 16 ∷ []) ∷ (dealt_from 2 31 ++ (dealing 33 
 -- HOLD, QUAL, BAD; R and φ of (1,1) and (2,1); the stage
 said : Run → List (List ℕ)
 said r =
-    members 4 (has (sets_of r).hold) ∷ members 4 (has (sets_of r).qual) ∷ members 4 (has (sets_of r).bad)
+    members 4 (has (shown_sets r).hold) ∷ members 4 (has (shown_sets r).qual) ∷ members 4 (has (shown_sets r).bad)
     ∷ ((shifted_nonce (transcript_of r) 1 1).0 ∷ (kept r 1 1).0 ∷ []) ∷ ((shifted_nonce (transcript_of r) 2 1).0 ∷ (kept r 2 1).0 ∷ []) ∷ (r.stage ∷ []) ∷ []
 
 -- the answer to a record after a list

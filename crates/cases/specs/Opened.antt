@@ -20,7 +20,7 @@ use Rattle.verification.specs.Definitions.{transcript}
 use Rattle.response.specs.Definitions.{no_responses, phi_of, shifted_phi_of, response_number, with_response, signatures_of}
 use Rattle.challenge.specs.Definitions.{no_challenges, challenges_from, with_challenges, with_shifted}
 use Rattle.run.specs.Runs.{no_scalars, begun, fresh, well_formed, stage_of, transcript_of, kept}
-use Rattle.answers.specs.Answers.{sets_of, unblamed_of, bad_of, no_sets, kept_sets}
+use Rattle.answers.specs.Answers.{sets_of, unblamed_of, bad_of, no_sets, kept_sets, shown_sets}
 use Rattle.reader.specs.Cutting.{own_length, by_batch, length_at, length_of, whole, cut_from, records_of, run_of}
 use Rattle.text.specs.Lines.{decimal_to, decimal, field, fields, line, set_text, set_line}
 use Rattle.closing.specs.Closing.{signature_line, signature_lines, set_lines, closing}
@@ -48,7 +48,7 @@ unfolding flatten
     no_complaints complaint_number with_complaint complaint_stage mask_by blamed_by unblamed
     no_challenges challenges_from with_challenges with_shifted no_responses phi_of shifted_phi_of response_number with_response transcript signatures_of
     no_scalars begun fresh batch_fits well_formed stage_of transcript_of kept
-    sets_of unblamed_of bad_of no_sets kept_sets
+    sets_of unblamed_of bad_of no_sets kept_sets shown_sets
     own_length by_batch length_at length_of whole cut_from records_of run_of
     decimal_to decimal field fields line set_text set_line
     signature_line signature_lines set_lines closing

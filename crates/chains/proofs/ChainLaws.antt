@@ -1,10 +1,11 @@
 -- The laws of products of powers: the empty one, one factor more, and one place more of what it comes to. Assumes nothing.
 use Rattle.std.specs.Prelude.{◌≡◌, ℕ, zero, suc, ◌+◌, ◌*◌, ◌/◌, ◌%◌, ◌^◌, ◌≤◌, ◌<◌, length}
 use Rattle.std.proofs.Math.Path.{refl, sym, ap, ap₂}
-use Rattle.std.proofs.Common.{◌∙◌, arith, zero-add, add-zero, pow-suc, mul_comm, div-one, add-one}
-use mathlib.Core.List.{List, [], ◌∷◌}
+use Rattle.std.proofs.Common.{◌∙◌, arith, zero-add, add-zero, pow-suc, mul_comm, div-one, add-one, append-nil, length-append}
+use mathlib.Core.List.{List, [], ◌∷◌, ◌++◌}
 use Rattle.std.proofs.Math.Nat.{pow-zero, div-div-eq-div-mul}
 use Rattle.std.proofs.Math.ListN.{get_or, set}
+use Rattle.std.proofs.Math.Seq.{append_snoc, get_or-append_seam}
 use Rattle.lists.specs.Stores.{stored, filled}
 use Rattle.lists.specs.StoreLaws.{get_or_filled, get_d_default, stored_first, stored_at, stored_other}
 use Rattle.field.specs.declared.Element.{Element}
@@ -55,6 +56,39 @@ value_next l d n v s above twice =
   where
     second : s ≡ powered v 2
     second = twice ∙ square v
+
+-- of a list of places the last are passed, and v is what they come to; rest are those before them
+pub record Passed (l rest : List Element) (v : Element) : Type 0 where
+  pub above : List Element
+  pub parts : l ≡ rest ++ above
+  pub value : v ≡ value_from l (length rest) (length above)
+
+pub passed_none : {l rest : List Element} → rest ≡ l → Passed l rest identity
+unfolding value_from
+passed_none {l} {rest} e = record { above = []; parts = sym (append-nil rest ∙ e); value = refl }
+
+-- one place more, x, with s the square of what the places above come to
+pub passed_next : {l rest next : List Element} (x : Element) {v s t u : Element} → Passed l rest v → rest ≡ next ++ (x ∷ []) → s ≡ product v v → t ≡ product s s → u ≡ product t x → Passed l next u
+passed_next {l} {rest} {next} x {v} {s} {t} {u} p e p2 p4 q =
+    let parts : l ≡ next ++ (x ∷ p.above) = p.parts ∙ ap (λ (r : List Element). r ++ p.above) e ∙ append_snoc next x p.above in
+    let long : length rest ≡ length next + 1 = ap length e ∙ length-append next (x ∷ []) in
+    let here : x ≡ get_or l (length next) identity = sym (ap (λ (r : List Element). get_or r (length next) identity) parts ∙ get_or-append_seam next x p.above identity) in
+    record {
+      above = x ∷ p.above;
+      parts = parts;
+      value =
+          q
+          ∙ ap₂ product p4 here
+          ∙ value_next l (length next) (length p.above) v s (p.value ∙ ap (λ (k : ℕ). value_from l k (length p.above)) long) p2
+          ∙ ap (value_from l (length next)) (add-one (length p.above));
+    }
+
+-- all places
+pub passed_all : {l rest : List Element} {v : Element} → Passed l rest v → length rest ≡ 0 → v ≡ value_from l 0 (length l)
+passed_all {l} {rest} {v} p e =
+    let long : length l ≡ length rest + length p.above = ap length p.parts ∙ length-append rest p.above in
+    let all : length p.above ≡ length l = omega arith in
+    p.value ∙ rw (e, all)
 
 -- the empty product
 pub value_none : (k d n : ℕ) → value_from (filled k identity) d n ≡ identity

@@ -36,9 +36,9 @@ impl Chain {
         let powers = [Element::ONE, one, two, three];
         let mut digits = self.digits;
         let mut left = exponent.0;
-        for d in 0..DIGITS {
+        for place in digits.iter_mut() {
             let digit = (left % 4) as usize;
-            digits[d] = digits[d].mul(powers[digit]);
+            *place = place.mul(powers[digit]);
             left = left / 4;
         }
         Chain { digits: digits }
@@ -49,10 +49,9 @@ impl Chain {
         ensures { result ≡ chain_value self }
     {
         let mut value = Element::ONE;
-        for i in 0..DIGITS {
-            let d = DIGITS - 1 - i;
+        for digit in self.digits.iter().rev() {
             let square = value.mul(value);
-            value = square.mul(square).mul(self.digits[d]);
+            value = square.mul(square).mul(*digit);
         }
         value
     }

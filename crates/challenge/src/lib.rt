@@ -21,15 +21,7 @@ pub struct Challenges {
 fn load_challenges(list: [Scalar; CELLS], bytes: &[u8], from: u16, count: u16) -> [Scalar; CELLS]
     ensures { result ≡ stored list 0 count (λ x. scalar (word bytes.now from x)) }
 {
-    let mut next = list;
-    for x in 0..count {
-        let at = x as usize;
-        let kept = at < CELLS;
-        if kept {
-            next[at] = Scalar(records::word(bytes, from, x));
-        }
-    }
-    next
+    arrays::with_numbers(list, 0, bytes, from, count)
 }
 
 impl Challenges {

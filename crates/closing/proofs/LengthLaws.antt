@@ -9,7 +9,7 @@ use Rattle.text.proofs.LineLaws.{line_max, set_line_max}
 use Rattle.run.specs.declared.Run.{Run}
 use Rattle.run.specs.Runs.{stage_of}
 use Rattle.run.specs.RunLaws.{formed_of, formed_batch, stage_live}
-use Rattle.answers.specs.Answers.{sets_of}
+use Rattle.answers.specs.Answers.{shown_sets}
 use Rattle.closing.specs.Closing.{hold_word, qual_word, bad_word, end_word, most_sets, most_lines, most_closing, signature_lines, set_lines, closing}
 use Rattle.closing.proofs.SignatureLaws.{signatures_max}
 
@@ -25,7 +25,7 @@ pub sets_max : (r : Run) → r.setup.n ≤ most_parties → length (set_lines r)
 unfolding set_lines
 sets_max r h =
     let n = r.setup.n in
-    simp length-append (omega (arith, set_line_max hold_word n (sets_of r).hold, set_line_max qual_word n (sets_of r).qual, set_line_max bad_word n (sets_of r).bad))
+    simp length-append (omega (arith, set_line_max hold_word n (shown_sets r).hold, set_line_max qual_word n (shown_sets r).qual, set_line_max bad_word n (shown_sets r).bad))
 
 pub closing_max : (r : Run) → r.setup.n ≤ most_parties → length (closing r) ≤ most_closing
 unfolding closing

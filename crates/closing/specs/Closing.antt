@@ -8,7 +8,7 @@ use Rattle.text.specs.Lines.{line, set_line}
 use Rattle.protocol.specs.Transcript.{shifted_nonce}
 use Rattle.run.specs.declared.Run.{Run}
 use Rattle.run.specs.Runs.{stage_of, transcript_of, kept}
-use Rattle.answers.specs.Answers.{sets_of}
+use Rattle.answers.specs.Answers.{shown_sets}
 
 -- the words hold, qual, bad, sig, end
 abbrev pub hold_word : List ℕ
@@ -59,12 +59,12 @@ unfoldable pub signature_lines : Run → ℕ → List ℕ
 signature_lines r zero = []
 signature_lines r (suc x) = signature_lines r x ++ signature_line r (x / r.setup.a + 1) (x % r.setup.a + 1)
 
--- HOLD, QUAL and BAD
+-- HOLD, QUAL and BAD, empty before they are fixed
 unfoldable pub set_lines : Run → List ℕ
 set_lines r =
-    set_line hold_word r.setup.n (sets_of r).hold
-    ++ (set_line qual_word r.setup.n (sets_of r).qual
-    ++ set_line bad_word r.setup.n (sets_of r).bad)
+    set_line hold_word r.setup.n (shown_sets r).hold
+    ++ (set_line qual_word r.setup.n (shown_sets r).qual
+    ++ set_line bad_word r.setup.n (shown_sets r).bad)
 
 -- the sets, at stage 5 every signature, and the stage
 unfoldable pub closing : Run → List ℕ

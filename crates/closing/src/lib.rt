@@ -62,16 +62,16 @@ fn put_signatures(out: &mut [u8], at: usize, run: Run) -> usize
     next
 }
 
-// The lines hold, qual and bad.
+// The lines hold, qual and bad: the members, or `-` for a set that is empty or not fixed.
 pub fn put_sets(out: &mut [u8], at: usize, run: Run) -> usize
     requires { (run.setup.n ≤ most_parties) × (at + most_sets ≤ length out.old) }
     ensures { Wrote out.old out.new at result (set_lines run) }
 {
     let n = run.setup.n;
-    let fixed = answers::sets_of(run);
-    let hold = text::put_set(out, at, b"hold", n, fixed.hold);
-    let qual = text::put_set(out, hold, b"qual", n, fixed.qual);
-    text::put_set(out, qual, b"bad", n, fixed.bad)
+    let sets = answers::shown_sets(run);
+    let hold = text::put_set(out, at, b"hold", n, sets.hold);
+    let qual = text::put_set(out, hold, b"qual", n, sets.qual);
+    text::put_set(out, qual, b"bad", n, sets.bad)
 }
 
 // The sets, at stage 5 every signature, and the stage.

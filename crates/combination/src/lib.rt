@@ -32,8 +32,7 @@ pub fn raised(list: [Element; PLACES], n: u8) -> [Element; PLACES]
         PLACES
     };
     let mut next = list;
-    for at in 0..count {
-        let value = list[at];
+    for (at, &value) in list[..count].iter().enumerate() {
         // a power of 1 is 1, and most places have no value
         let power = if value.same(Element::ONE) {
             value
@@ -68,11 +67,7 @@ pub fn combined_values(powers: [Element; PLACES], qual: u64, n: u8, quorum: u8) 
         for i in 0..n {
             if sets::has(qual, i + 1) {
                 let at = i as usize * STRIDE + v;
-                let value = if at < PLACES {
-                    powers[at]
-                } else {
-                    Element::ONE
-                };
+                let value = arrays::item_or(&powers, at, Element::ONE);
                 product = product.mul(value);
             }
         }
@@ -96,9 +91,7 @@ pub fn with_values(
     let row = combined_values(powers, qual, n, quorum);
     let first = u as usize * STRIDE;
     let mut next = values;
-    for v in 0..STRIDE {
-        next[first + v] = row[v];
-    }
+    next[first..first + STRIDE].copy_from_slice(&row);
     next
 }
 

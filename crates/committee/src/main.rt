@@ -5,6 +5,7 @@
 use console::{end_line, print_number};
 use field::Scalar;
 use replies::give;
+use rows::ROW;
 use run::Run;
 use std::io::Print;
 
@@ -15,12 +16,15 @@ const THRESHOLD: u8 = 1;
 
 const PACKING: u8 = 2;
 
+// b, which is n-2t.
+const BATCH: u8 = 4;
+
 // The value at party j of the polynomial that has these values at the first points from 1-a on.
-fn value_at(count: u8, values: [Scalar; 64], j: u8) -> u32 {
-    let value = points::committed_points(PACKING, count)
+fn value_at(count: u8, values: [Scalar; ROW], j: u8) -> u32 {
+    points::committed_points(PACKING, count)
         .weights(points::point(j, 0))
-        .sum(values);
-    value.0
+        .sum(values)
+        .0
 }
 
 // s and F(1).
@@ -33,7 +37,7 @@ const KEY_POINTS: u8 = 3;
 
 // F(j), from s at the packed slots and F(1).
 fn key_share(j: u8) -> u32 {
-    let mut values = [Scalar::ZERO; 64];
+    let mut values = [Scalar::ZERO; ROW];
     values[0] = Scalar(SECRET);
     values[1] = Scalar(SECRET);
     values[2] = Scalar(FIRST_SHARE);
@@ -56,11 +60,10 @@ fn dealt_value(i: u8, v: u8) -> u32 {
 
 // H_i(j), from those.
 fn dealt_share(i: u8, j: u8) -> u32 {
-    let mut values = [Scalar::ZERO; 64];
-    values[0] = Scalar(dealt_value(i, 0));
-    values[1] = Scalar(dealt_value(i, 1));
-    values[2] = Scalar(dealt_value(i, 2));
-    values[3] = Scalar(dealt_value(i, 3));
+    let mut values = [Scalar::ZERO; ROW];
+    for v in 0..COMMITTED {
+        values[v as usize] = Scalar(dealt_value(i, v));
+    }
     value_at(COMMITTED, values, j)
 }
 
@@ -68,9 +71,9 @@ fn dealt_share(i: u8, j: u8) -> u32 {
 const SETUP: usize = 14;
 
 fn set_up(rt: &impl Print, run: Run) -> Run {
-    let shares: [u32; 1] = [FIRST_SHARE];
+    let shares = [FIRST_SHARE];
     let mut out = [0u8; SETUP];
-    if dealer::write_setup(PARTIES, THRESHOLD, PACKING, SECRET, &shares, &mut out) != 0 {
+    if dealer::write_setup(PARTIES, THRESHOLD, PACKING, SECRET, &shares, &mut out).is_err() {
         return run;
     }
     give(rt, run, &out)
@@ -78,37 +81,28 @@ fn set_up(rt: &impl Print, run: Run) -> Run {
 
 const DEALING: usize = 44;
 
-fn give_dealing(rt: &impl Print, run: Run, bytes: &[u8; DEALING]) -> Run {
-    give(rt, run, bytes)
-}
-
 // The dealer of a wrong share, and the last byte of the share for holder 1.
 const WRONG_DEALER: u8 = 4;
 
 const WRONG_BYTE: usize = 23;
 
 fn deal(rt: &impl Print, run: Run, i: u8) -> Run {
-    let values: [u32; 4] = [
-        dealt_value(i, 0),
-        dealt_value(i, 1),
-        dealt_value(i, 2),
-        dealt_value(i, 3),
-    ];
+    let values = [0, 1, 2, 3].map(|v| dealt_value(i, v));
     let mut out = [0u8; DEALING];
-    if dealer::write_dealing(PARTIES, THRESHOLD, PACKING, i, &values, &mut out) != 0 {
+    if dealer::write_dealing(PARTIES, THRESHOLD, PACKING, i, &values, &mut out).is_err() {
         return run;
     }
     if i == WRONG_DEALER {
-        out[WRONG_BYTE] = out[WRONG_BYTE] ^ 1;
+        out[WRONG_BYTE] ^= 1;
     }
-    give_dealing(rt, run, &out)
+    give(rt, run, &out)
 }
 
 const COMPLAINT: usize = 8;
 
 fn complain(rt: &impl Print, run: Run, j: u8) -> Run {
     let mut out = [0u8; COMPLAINT];
-    if writers::write_complaint(run, j, &mut out) != 0 {
+    if writers::write_complaint(run, j, &mut out).is_err() {
         return run;
     }
     give(rt, run, &out)
@@ -118,7 +112,7 @@ const RESPONSE: usize = 20;
 
 // The shares of dealers outside QUAL are not read: they are no scalars here.
 fn respond(rt: &impl Print, run: Run, j: u8) -> Run {
-    let shares: [u32; 6] = [
+    let shares = [
         u32::MAX,
         dealt_share(2, j),
         dealt_share(3, j),
@@ -127,7 +121,7 @@ fn respond(rt: &impl Print, run: Run, j: u8) -> Run {
         dealt_share(6, j),
     ];
     let mut out = [0u8; RESPONSE];
-    if writers::write_response(run, j, key_share(j), &shares, &mut out) != 0 {
+    if writers::write_response(run, j, key_share(j), &shares, &mut out).is_err() {
         return run;
     }
     give(rt, run, &out)
@@ -136,7 +130,7 @@ fn respond(rt: &impl Print, run: Run, j: u8) -> Run {
 // Dealers 2 to 6.
 fn deal_all(rt: &impl Print, begun: Run) -> Run {
     let mut run = begun;
-    for i in 2..7 {
+    for i in 2..=PARTIES {
         run = deal(rt, run, i);
     }
     run
@@ -144,18 +138,16 @@ fn deal_all(rt: &impl Print, begun: Run) -> Run {
 
 fn complain_all(rt: &impl Print, dealt: Run) -> Run {
     let mut run = dealt;
-    let holders: [u8; 5] = [1, 2, 3, 5, 6];
-    for h in 0..5 {
-        run = complain(rt, run, holders[h]);
+    for holder in [1, 2, 3, 5, 6] {
+        run = complain(rt, run, holder);
     }
     run
 }
 
 fn respond_all(rt: &impl Print, challenged: Run) -> Run {
     let mut run = challenged;
-    let responders: [u8; 4] = [6, 1, 3, 5];
-    for h in 0..4 {
-        run = respond(rt, run, responders[h]);
+    for holder in [6, 1, 3, 5] {
+        run = respond(rt, run, holder);
     }
     run
 }
@@ -168,9 +160,10 @@ fn say(rt: &impl Print, run: Run, u: u8, k: u8) {
 }
 
 fn say_all(rt: &impl Print, run: Run) {
-    for u in 1..5 {
-        say(rt, run, u, 1);
-        say(rt, run, u, 2);
+    for u in 1..=BATCH {
+        for k in 1..=PACKING {
+            say(rt, run, u, k);
+        }
     }
 }
 

@@ -5,10 +5,12 @@ ghost use Rattle.std.specs.Prelude.{◌≡◌, not, ◌||◌, ◌+◌, ◌≤◌
 ghost use Rattle.lists.specs.Tests.{all_to};
 ghost use Rattle.sets.specs.Masks.{has};
 ghost use Rattle.dealing.specs.Definitions.{may_blame};
+ghost use Rattle.refusals.specs.Numbers.{number_of};
 ghost use Rattle.complaint.specs.Definitions.{mask_by, blamed_by, unblamed, complaint_number, with_complaint, complaint_stage};
 
 use dealing::{Dealings, Setup};
 use parameters::{MOST_PARTIES, PARTIES};
+use refusals::Refusal;
 
 // The accepted complaint rows (verdicts, in document 01). Holder j's mask stands at j - 1.
 #[derive(Clone, Copy)]
@@ -19,8 +21,8 @@ pub struct Complaints {
 }
 
 // Whether each dealer that a mask blames has a dealing whose share for j is not valid.
-pub fn blames_rightly(dealings: Dealings, n: u8, j: u8, mask: u64) -> bool
-    ensures { result ≡ all_to n (λ i. not (has mask (i + 1)) || may_blame dealings j (i + 1)) }
+pub fn blames_rightly(dealings: &Dealings, n: u8, j: u8, mask: u64) -> bool
+    ensures { result ≡ all_to n (λ i. not (has mask (i + 1)) || may_blame dealings.now j (i + 1)) }
 {
     for i in 0..n {
         if sets::has(mask, i + 1) {
@@ -68,22 +70,20 @@ impl Complaints {
         sets::minus(dealers, self.blamed(n))
     }
 
-    // The refusal of a complaint row, or 0.
-    pub fn number(self, setup: Setup, dealings: Dealings, bytes: &[u8]) -> u8
-        ensures { result ≡ complaint_number setup dealings self bytes.now }
+    // The refusal of a complaint row.
+    #[tactic(auto, unfolding(crate::specs::Definitions::complaint_number, lists::specs::Tests::require, lists::specs::Tests::or_next))]
+    pub fn refusal(&self, setup: Setup, dealings: &Dealings, bytes: &[u8]) -> Result<(), Refusal>
+        ensures { number_of result ≡ complaint_number setup dealings.now self.now bytes.now }
     {
-        let number = refusals::complaint_refusal(setup.n, bytes);
-        if number != 0 {
-            return number;
-        }
+        refusals::complaint_refusal(setup.n, bytes)?;
         let j = records::byte(bytes, 2);
         if sets::has(self.holders, j) {
-            return 12;
+            return Err(Refusal::AlreadySent);
         }
         if !blames_rightly(dealings, setup.n, j, records::mask(setup.n, bytes)) {
-            return 13;
+            return Err(Refusal::FalseBlame);
         }
-        0
+        Ok(())
     }
 
     // With one more complaint row of a committee of n.

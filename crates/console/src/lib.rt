@@ -1,11 +1,12 @@
 // Standard input, output and error, as the programs use them. What a write could not write is let go, but where a function says otherwise.
 #![tactic(auto)]
 
-ghost use Rattle.std.specs.Prelude.{◌<◌, ◌≤◌, length, take, IfSome};
+ghost use Rattle.std.specs.Prelude.{◌≡◌, ◌<◌, ◌≤◌, length, take, codes, if◌then◌else◌, IfOk, IfSome};
 ghost use Rattle.std.specs.Bool.{OnTrue};
 ghost use Rattle.std.specs.Io.KnownBytes.{Consumes, IsAtEnd, Keeps};
 
-use std::io::{Print, Read};
+use std::fmt;
+use std::io::{Eprint, Print, Read};
 
 // Reads until the buffer is full, the input ends or a read fails, and returns how many bytes it put at the start of the buffer.
 pub fn read_full<R: Read>(input: &mut R, buf: &mut [u8]) -> usize
@@ -31,17 +32,114 @@ pub fn input_ended<R: Read>(input: &mut R) -> bool
     matches!(input.read(&mut more), Ok(0))
 }
 
-// Reads the whole input, or as much of it as fills the buffer, and returns how many bytes that is; none where a read failed.
-pub fn read_input<R: Read>(input: &mut R, buf: &mut [u8]) -> Option<usize>
-    ensures in_bounds { IfSome result (λ n. n ≤ length buf.new) }
-    ensures bytes { IfSome result (λ n. Consumes (R.remaining input.old) (R.remaining input.new) (take n buf.new)) }
-    ensures whole { IfSome result (λ n. n < length buf.new → IsAtEnd (R.remaining input.new)) }
+// Reads the whole input, or as much of it as fills the buffer; none where a read failed.
+pub fn read_input<'a, R: Read>(input: &mut R, buf: &'a mut [u8]) -> Option<&'a [u8]>
+    ensures in_bounds { IfSome result (λ s. length s.now ≤ length buf.old) }
+    ensures bytes { IfSome result (λ s. Consumes (R.remaining input.old) (R.remaining input.new) s.now) }
+    ensures whole { IfSome result (λ s. length s.now < length buf.old → IsAtEnd (R.remaining input.new)) }
 {
     let got = read_full(input, buf);
     if got < buf.len() && !input_ended(input) {
         return None;
     }
-    Some(got)
+    Some(&buf[..got])
+}
+
+// Why a program has no input to take.
+#[derive(Clone, Copy, Debug, PartialEq, Eq)]
+enum Untaken {
+    Unread,
+    Long,
+}
+
+// Reads an input that leaves at least a byte of the buffer free.
+fn read_shorter<'a, R: Read>(input: &mut R, buf: &'a mut [u8]) -> Result<&'a [u8], Untaken>
+    ensures in_bounds { IfOk result (λ s. length s.now < length buf.old) }
+    ensures bytes { IfOk result (λ s. Consumes (R.remaining input.old) (R.remaining input.new) s.now) }
+    ensures whole { IfOk result (λ s. IsAtEnd (R.remaining input.new)) }
+{
+    let room = buf.len();
+    let read = read_input(input, buf).ok_or(Untaken::Unread)?;
+    let long = read.len() == room;
+    if long {
+        return Err(Untaken::Long);
+    }
+    Ok(read)
+}
+
+// Gives a program its whole input to serve, where that is shorter than the buffer; where it is not, prints `long`. Where it could not be read, standard error
+// says so.
+pub fn serve_input<R: Read, F: FnOnce(&[u8])>(
+    rt: &(impl Print + Eprint),
+    input: &mut R,
+    program: &str,
+    what: &str,
+    buf: &mut [u8],
+    serve: F,
+)
+    requires { (s : _) → length s.now < length buf.old → F.pre serve s }
+{
+    match read_shorter(input, buf) {
+        Ok(read) => serve(read),
+        Err(Untaken::Long) => print_bytes(rt, b"long\n"),
+        Err(Untaken::Unread) => say(rt, program, format_args!("the {what} could not be read")),
+    }
+}
+
+// Why a log has no page.
+#[derive(Clone, Copy, Debug, PartialEq, Eq)]
+enum Unmade {
+    Unread,
+    Empty,
+}
+
+impl fmt::Display for Unmade {
+    fn fmt<W: fmt::Write>(&self, f: &mut fmt::Formatter<W>) -> fmt::Result {
+        f.write_str(match self {
+            Unmade::Unread => "the log could not be read",
+            Unmade::Empty => "the page could not be made",
+        })
+    }
+}
+
+// Reads a log and makes its page in a buffer. The report answers how many bytes the page has; there is no page of 0 bytes.
+fn make_page<'a, R: Read, F: FnOnce(&[u8], &mut [u8]) -> usize>(
+    input: &mut R,
+    log: &mut [u8],
+    page: &'a mut [u8],
+    report: F,
+) -> Result<&'a [u8], Unmade>
+    requires { F.IsAlwaysCallable report }
+    ensures some { IfOk result (λ s. 0 < length s.now) }
+    ensures made { IfOk result (λ s. (l : _) × (p : _) × (n : _) × (q : _) × F.post report l p n q × Consumes (R.remaining input.old) (R.remaining input.new) l.now × (p.now ≡ page.old) × (s.now ≡ take n q.now)) }
+{
+    let log = read_input(input, log).ok_or(Unmade::Unread)?;
+    let size = report(log, page);
+    if size == 0 {
+        return Err(Unmade::Empty);
+    }
+    page.get(..size).ok_or(Unmade::Empty)
+}
+
+// Prints the page that a report makes of the log on the input. On standard error it says where that could not be done.
+pub fn print_page<R: Read, F: FnOnce(&[u8], &mut [u8]) -> usize>(
+    rt: &(impl Print + Eprint),
+    input: &mut R,
+    program: &str,
+    log: &mut [u8],
+    page: &mut [u8],
+    report: F,
+)
+    requires { F.IsAlwaysCallable report }
+{
+    match make_page(input, log, page, report) {
+        Ok(made) => {
+            if rt.write_all(made).is_err() {
+                say(rt, program, "the page could not be written whole");
+            }
+        }
+        Err(unmade) => say(rt, program, unmade),
+    }
 }
 
 // Bytes as they are.
@@ -61,11 +159,14 @@ pub fn print_hex(rt: &impl Print, byte: u8) {
 
 // A word for whether a test is passed, and a space.
 pub fn print_test(rt: &impl Print, passed: bool) {
-    if passed {
-        print_bytes(rt, b"yes ");
-    } else {
-        print_bytes(rt, b"no ");
-    }
+    let _ = print!(rt; "{} ", word(passed));
+}
+
+// The word for it: yes or no.
+pub fn word(passed: bool) -> &'static str
+    ensures { result.now ≡ (if passed then codes "yes" else codes "no") }
+{
+    if passed { "yes" } else { "no" }
 }
 
 pub fn end_line(rt: &impl Print) {
@@ -73,20 +174,6 @@ pub fn end_line(rt: &impl Print) {
 }
 
 // What a program could not do, on standard error, after its name.
-pub fn say(error: &impl Print, program: &[u8], what: &[u8]) {
-    print_bytes(error, program);
-    print_bytes(error, b": ");
-    print_bytes(error, what);
-    print_bytes(error, b"\n");
-}
-
-// Writes the first size bytes of a program's page; there is no page of 0 bytes. On standard error it says where that could not be done.
-pub fn write_page(rt: &impl Print, error: &impl Print, program: &[u8], page: &[u8], size: usize) {
-    if size == 0 || page.len() < size {
-        say(error, program, b"the page could not be made");
-        return;
-    }
-    if rt.write_all(&page[..size]).is_err() {
-        say(error, program, b"the page could not be written whole");
-    }
+pub fn say<D: fmt::Display + Drop>(rt: &impl Eprint, program: &str, what: D) {
+    let _ = eprintln!(rt; "{program}: {what}");
 }

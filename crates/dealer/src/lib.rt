@@ -7,24 +7,20 @@ ghost use Rattle.lists.specs.Tests.{pick, all_to};
 ghost use Rattle.field.specs.Definitions.{scalar, is_scalar};
 ghost use Rattle.rows.specs.Definitions.{most_scalars};
 ghost use Rattle.parameters.specs.Definitions.{in_bounds, quorum};
+ghost use Rattle.refusals.specs.Numbers.{number_of};
 ghost use Rattle.encoding.specs.Bytes.{fours};
 ghost use Rattle.arrays.specs.Arrays.{scalars};
 ghost use Rattle.dealer.specs.Dealt.{setup_refused, setup_bytes, dealing_refused, share_for, dealing_bytes};
 
 use field::{Element, Scalar};
+use refusals::Refusal;
 use rows::ROW;
 
 // Whether every number of a list is a scalar.
 fn all_scalars(list: &[u32]) -> bool
     ensures { result ≡ all_to (length list.now) (λ i. is_scalar (get_or list.now i 0)) }
 {
-    let count = list.len();
-    for i in 0..count {
-        if !Scalar::accepts(list[i]) {
-            return false;
-        }
-    }
-    true
+    list.iter().all(|&x| Scalar::accepts(x))
 }
 
 // The numbers of a list as scalars.
@@ -32,48 +28,51 @@ fn load_scalars(list: &[u32]) -> [Scalar; ROW]
     requires { length list.now ≤ most_scalars }
     ensures { result ≡ scalars (length list.now) (λ i. scalar (get_or list.now i 0)) }
 {
-    let count = list.len();
     let mut values = [Scalar::ZERO; ROW];
-    for i in 0..count {
-        values[i] = Scalar(list[i]);
+    for (i, &x) in list.iter().enumerate() {
+        values[i] = Scalar(x);
     }
     values
 }
 
-fn setup_refused(n: u8, t: u8, a: u8, s: u32, shares: &[u32], room: usize) -> u8
-    ensures { result ≡ setup_refused n t a s shares.now room }
+fn setup_refused(n: u8, t: u8, a: u8, s: u32, shares: &[u32], room: usize) -> Result<(), Refusal>
+    ensures { number_of result ≡ setup_refused n t a s shares.now room }
 {
     if !parameters::in_bounds(n, t, a) {
-        return 4;
+        return Err(Refusal::OutOfBounds);
     }
     if shares.len() != t as usize {
-        return 10;
+        return Err(Refusal::WrongCount);
     }
     if !Scalar::accepts(s) {
-        return 6;
+        return Err(Refusal::NotScalar);
     }
     if !all_scalars(shares) {
-        return 6;
+        return Err(Refusal::NotScalar);
     }
     let none = s == 0;
     if none {
-        return 16;
+        return Err(Refusal::IdentityKey);
     }
     if room != records::setup_length(t) {
-        return 9;
+        return Err(Refusal::WrongRoom);
     }
-    0
+    Ok(())
 }
 
 // SU, from n, t, a, s and F(1) to F(t). For s = 0 the key would be the identity.
-pub fn write_setup(n: u8, t: u8, a: u8, s: u32, shares: &[u32], out: &mut [u8]) -> u8
-    ensures number { result ≡ setup_refused n t a s shares.now (length out.old) }
-    ensures bytes { out.new ≡ pick (eqb result 0) (setup_bytes n t a s shares.now) out.old }
+pub fn write_setup(
+    n: u8,
+    t: u8,
+    a: u8,
+    s: u32,
+    shares: &[u32],
+    out: &mut [u8],
+) -> Result<(), Refusal>
+    ensures number { number_of result ≡ setup_refused n t a s shares.now (length out.old) }
+    ensures bytes { out.new ≡ pick (eqb (number_of result) 0) (setup_bytes n t a s shares.now) out.old }
 {
-    let number = setup_refused(n, t, a, s, shares, out.len());
-    if number != 0 {
-        return number;
-    }
+    setup_refused(n, t, a, s, shares, out.len())?;
     out[0] = b'S';
     out[1] = b'U';
     out[2] = n;
@@ -83,28 +82,28 @@ pub fn write_setup(n: u8, t: u8, a: u8, s: u32, shares: &[u32], out: &mut [u8]) 
     let key = Element::GENERATOR.pow(Scalar(s));
     encoding::put(out, 6, key.0);
     encoding::put_powers(out, 10, shares);
-    0
+    Ok(())
 }
 
-fn dealing_refused(n: u8, t: u8, a: u8, i: u8, values: &[u32], room: usize) -> u8
-    ensures { result ≡ dealing_refused n t a i values.now room }
+fn dealing_refused(n: u8, t: u8, a: u8, i: u8, values: &[u32], room: usize) -> Result<(), Refusal>
+    ensures { number_of result ≡ dealing_refused n t a i values.now room }
 {
     if !parameters::in_bounds(n, t, a) {
-        return 4;
+        return Err(Refusal::OutOfBounds);
     }
     if !parameters::is_party(n, i) {
-        return 5;
+        return Err(Refusal::NoParty);
     }
     if values.len() != parameters::quorum(t, a) as usize {
-        return 10;
+        return Err(Refusal::WrongCount);
     }
     if !all_scalars(values) {
-        return 6;
+        return Err(Refusal::NotScalar);
     }
     if room != records::dealing_length(n, t, a) {
-        return 9;
+        return Err(Refusal::WrongRoom);
     }
-    0
+    Ok(())
 }
 
 // The shares of a dealing for 1 to n.
@@ -122,19 +121,23 @@ fn put_shares(out: &mut [u8], at: usize, n: u8, t: u8, a: u8, values: &[u32])
 }
 
 // DE, from n, t, a, i and the values of H_i at its committed points.
-pub fn write_dealing(n: u8, t: u8, a: u8, i: u8, values: &[u32], out: &mut [u8]) -> u8
-    ensures number { result ≡ dealing_refused n t a i values.now (length out.old) }
-    ensures bytes { out.new ≡ pick (eqb result 0) (dealing_bytes n t a i values.now) out.old }
+pub fn write_dealing(
+    n: u8,
+    t: u8,
+    a: u8,
+    i: u8,
+    values: &[u32],
+    out: &mut [u8],
+) -> Result<(), Refusal>
+    ensures number { number_of result ≡ dealing_refused n t a i values.now (length out.old) }
+    ensures bytes { out.new ≡ pick (eqb (number_of result) 0) (dealing_bytes n t a i values.now) out.old }
 {
-    let number = dealing_refused(n, t, a, i, values, out.len());
-    if number != 0 {
-        return number;
-    }
+    dealing_refused(n, t, a, i, values, out.len())?;
     out[0] = b'D';
     out[1] = b'E';
     out[2] = i;
     out[3] = 0;
     encoding::put_powers(out, 4, values);
     put_shares(out, 4 + 4 * values.len(), n, t, a, values);
-    0
+    Ok(())
 }

@@ -8,10 +8,12 @@ ghost use Rattle.parameters.specs.Definitions.{most_parties, in_bounds};
 ghost use Rattle.records.specs.Bytes.{word, sender};
 ghost use Rattle.protocol.specs.Transcript.{key_at};
 ghost use Rattle.arrays.specs.Arrays.{elements};
+ghost use Rattle.refusals.specs.Numbers.{number_of};
 ghost use Rattle.dealing.specs.Definitions.{setup_of, key_in, dealing_number, wrong_shares, with_dealing, may_blame};
 
 use field::{Element, Scalar};
 use parameters::{MOST_PARTIES, PARTIES, PLACES, STRIDE};
+use refusals::Refusal;
 use rows::ROW;
 
 // The accepted setup: the parameters, and S, S_1 to S_t.
@@ -33,50 +35,19 @@ pub struct Dealings {
 }
 
 // S and S_1 on from a setup.
+#[tactic(auto, unfolding(lists::specs::Stores::filled))]
 fn load_key(bytes: &[u8], count: u16) -> [Element; PARTIES]
     ensures { result ≡ stored (filled most_parties identity) 0 count (λ j. element (word bytes.now 6 j)) }
 {
-    let mut list = [Element::ONE; PARTIES];
-    for j in 0..count {
-        let at = j as usize;
-        if at < PARTIES {
-            list[at] = Element(records::word(bytes, 6, j));
-        }
-    }
-    list
-}
-
-// The list with a dealing's committed values from a place on.
-fn load_commitments(
-    list: [Element; PLACES],
-    base: u16,
-    bytes: &[u8],
-    count: u16,
-) -> [Element; PLACES]
-    ensures { result ≡ stored list base count (λ v. element (word bytes.now 4 v)) }
-{
-    let mut next = list;
-    for v in 0..count {
-        let at = base as usize + v as usize;
-        if at < PLACES {
-            next[at] = Element(records::word(bytes, 4, v));
-        }
-    }
-    next
+    arrays::with_numbers([Element::ONE; PARTIES], 0, bytes, 6, count)
 }
 
 // A dealing's committed values by themselves.
+#[tactic(auto, unfolding(lists::specs::Stores::filled, arrays::specs::Arrays::elements))]
 fn load_values(bytes: &[u8], count: u16) -> [Element; ROW]
     ensures { result ≡ elements count (λ v. element (word bytes.now 4 v)) }
 {
-    let mut list = [Element::ONE; ROW];
-    for v in 0..count {
-        let at = v as usize;
-        if at < ROW {
-            list[at] = Element(records::word(bytes, 4, v));
-        }
-    }
-    list
+    arrays::with_numbers([Element::ONE; ROW], 0, bytes, 4, count)
 }
 
 // The holders for whom a dealing's share is not valid.
@@ -130,8 +101,8 @@ impl Setup {
 
 impl Dealings {
     // Whether holder j may blame dealer i: i has a dealing, whose share for j is not valid.
-    pub fn may_blame(self, j: u8, i: u8) -> bool
-        ensures { result ≡ may_blame self j i }
+    pub fn may_blame(&self, j: u8, i: u8) -> bool
+        ensures { result ≡ may_blame self.now j i }
     {
         if i < 1 {
             return false;
@@ -156,10 +127,11 @@ impl Dealings {
         let i = records::byte(bytes, 2);
         let before = arrays::predecessor(i);
         let list = self.commitments;
-        let commitments = load_commitments(
+        let commitments = arrays::with_numbers(
             list,
             before as u16 * STRIDE as u16,
             bytes,
+            4,
             parameters::quorum(setup.t, setup.a),
         );
         let mut wrong = self.wrong;
@@ -175,17 +147,16 @@ impl Dealings {
         }
     }
 
-    // The refusal of a dealing, or 0.
-    pub fn number(self, setup: Setup, bytes: &[u8]) -> u8
-        ensures { result ≡ dealing_number setup self bytes.now }
+    // The refusal of a dealing.
+    #[tactic(auto, unfolding(crate::specs::Definitions::dealing_number, lists::specs::Tests::require, lists::specs::Tests::or_next))]
+    pub fn refusal(&self, setup: Setup, bytes: &[u8]) -> Result<(), Refusal>
+        ensures { number_of result ≡ dealing_number setup self.now bytes.now }
     {
-        let number = refusals::dealing_refusal(setup.n, setup.t, setup.a, bytes);
-        if number != 0 {
-            return number;
+        refusals::dealing_refusal(setup.n, setup.t, setup.a, bytes)?;
+        let sent = sets::has(self.dealers, records::byte(bytes, 2));
+        if sent {
+            return Err(Refusal::AlreadySent);
         }
-        if sets::has(self.dealers, records::byte(bytes, 2)) {
-            return 12;
-        }
-        0
+        Ok(())
     }
 }

@@ -1,79 +1,63 @@
 // Prints the arithmetic at the edges of its ranges: a line for each number, then a line for each two.
 #![tactic(auto)]
 
-use console::{end_line, print_test};
+use console::word;
 use field::{Element, Reading, Scalar};
 use std::io::Print;
 
-const COUNT: usize = 9;
-
-fn print(rt: &impl Print, x: u32) {
-    console::print_number(rt, x as u64);
-}
-
-fn print_word(rt: &impl Print, word: &[u8]) {
-    console::print_bytes(rt, word);
-}
+const EDGES: [u32; 9] = [
+    0,
+    1,
+    2,
+    4,
+    Scalar::MODULUS - 1,
+    Scalar::MODULUS,
+    Element::MODULUS - 1,
+    Element::MODULUS,
+    u32::MAX,
+];
 
 // A word for what a number is as an element.
-fn print_reading(rt: &impl Print, reading: Reading) {
+fn reading_word(reading: Reading) -> &'static str {
     match reading {
-        Reading::NoElement => print_word(rt, b"none "),
-        Reading::Identity => print_word(rt, b"identity "),
-        Reading::Other => print_word(rt, b"other "),
+        Reading::NoElement => "none",
+        Reading::Identity => "identity",
+        Reading::Other => "other",
     }
 }
 
 // The number; whether it is a scalar; what it is as an element; its remainder, its inverse; its power 3; 4 to it.
-fn single(rt: &impl Print, x: u32) {
-    print(rt, x);
-    print_test(rt, Scalar::accepts(x));
-    print_reading(rt, Element::read(x));
-    print(rt, Scalar::new(x).0);
-    print(rt, Scalar(x).inverse().0);
-    print(rt, Scalar(x).power(3).0);
-    print(rt, Element::GENERATOR.pow(Scalar(x)).0);
-    end_line(rt);
+fn print_single(rt: &impl Print, x: u32) {
+    let _ = println!(rt;
+        "{x} {} {} {} {} {} {} ",
+        word(Scalar::accepts(x)),
+        reading_word(Element::read(x)),
+        Scalar::new(x).0,
+        Scalar(x).inverse().0,
+        Scalar(x).power(3).0,
+        Element::GENERATOR.pow(Scalar(x)).0
+    );
 }
 
 // Two numbers; sum, difference and product of scalars; product and power of elements.
-fn pair(rt: &impl Print, x: u32, y: u32) {
-    print(rt, x);
-    print(rt, y);
-    print(rt, Scalar(x).add(Scalar(y)).0);
-    print(rt, Scalar(x).sub(Scalar(y)).0);
-    print(rt, Scalar(x).mul(Scalar(y)).0);
-    print(rt, Element(x).mul(Element(y)).0);
-    print(rt, Element(x).pow(Scalar(y)).0);
-    end_line(rt);
-}
-
-fn singles(rt: &impl Print, edges: [u32; COUNT]) {
-    for i in 0..COUNT {
-        single(rt, edges[i]);
-    }
-}
-
-fn pairs(rt: &impl Print, edges: [u32; COUNT]) {
-    for i in 0..COUNT {
-        for j in 0..COUNT {
-            pair(rt, edges[i], edges[j]);
-        }
-    }
+fn print_pair(rt: &impl Print, x: u32, y: u32) {
+    let _ = println!(rt;
+        "{x} {y} {} {} {} {} {} ",
+        Scalar(x).add(Scalar(y)).0,
+        Scalar(x).sub(Scalar(y)).0,
+        Scalar(x).mul(Scalar(y)).0,
+        Element(x).mul(Element(y)).0,
+        Element(x).pow(Scalar(y)).0
+    );
 }
 
 fn main(rt: HostRuntime) {
-    let edges: [u32; COUNT] = [
-        0,
-        1,
-        2,
-        4,
-        Scalar::MODULUS - 1,
-        Scalar::MODULUS,
-        Element::MODULUS - 1,
-        Element::MODULUS,
-        u32::MAX,
-    ];
-    singles(&rt, edges);
-    pairs(&rt, edges);
+    for x in EDGES {
+        print_single(&rt, x);
+    }
+    for x in EDGES {
+        for y in EDGES {
+            print_pair(&rt, x, y);
+        }
+    }
 }

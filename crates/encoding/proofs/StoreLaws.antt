@@ -1,12 +1,16 @@
 -- Laws of runs of stores: a whole record, and numbers one by one.
 -- Assumes nothing.
-use Rattle.std.specs.Prelude.{◌≡◌, refl, List, ◌++◌, ℕ, suc, ◌+◌, ◌*◌, ◌-◌, ◌/◌, ◌%◌, ◌^◌, ◌<◌, length, set}
-use Rattle.std.proofs.Common.{sym, ap, ◌∙◌, append-nil, zero-add, add-zero, add-one, arith, drop_of_length-le}
+use Rattle.std.specs.Prelude.{◌≡◌, refl, List, ◌∷◌, ◌++◌, ℕ, zero, suc, ◌≤◌, take, drop, ◌+◌, ◌*◌, ◌-◌, ◌/◌, ◌%◌, ◌^◌, length}
+use Rattle.std.proofs.Common.{sym, ap, ap₂, ◌∙◌, div-one, suc-add, append-nil, zero-add, add-one, arith, drop_of_length-le}
 use Rattle.std.proofs.lemmas.List.Edits.{sets, sets-eq}
-use Rattle.std.proofs.Math.Seq.{length-sets}
+use Rattle.std.proofs.Math.Seq.{length-sets, take-length}
+use borrow.Rule.Slice.PartMut.{put_mid}
+use Rattle.std.specs.Int.{byte_at, bytes_high_first}
+use Rattle.field.proofs.PowerLaws.{pow_mul}
 use Rattle.lists.specs.StoreLaws.{sets_append}
+use Rattle.lists.specs.CopyLaws.{copied}
 use Rattle.encoding.specs.Bytes.{bytes_of, four, fours}
-use Rattle.encoding.proofs.ByteLaws.{length_fours}
+use Rattle.encoding.proofs.ByteLaws.{length_bytes, length_fours}
 
 -- a beginning and the rest fill a buffer of their length
 pub sets_whole : (out head rest : List ℕ) → length (head ++ rest) ≡ length out → sets (sets out 0 head) (length head) rest ≡ head ++ rest
@@ -22,28 +26,32 @@ pub sets_parts : (out head x y : List ℕ) → length (head ++ (x ++ y)) ≡ len
     → sets (sets (sets out 0 head) (length head) x) (length head + length x) y ≡ head ++ (x ++ y)
 sets_parts out head x y e = sym (sets_append x y (sets out 0 head) (length head)) ∙ sets_whole out head (x ++ y) e
 
--- ---- bytes put one by one
+-- ---- the bytes of a number
 
--- none of w put yet
-pub bytes_first : (w x : ℕ) (out : List ℕ) (at : ℕ) → sets out (at + 0) (bytes_of (w - 0) x) ≡ sets out at (bytes_of w x)
-bytes_first w x out at =
-    let all : w - 0 ≡ w = omega arith in
-    rw (all, add-zero at)
+-- the lowest k of its bytes, as std has them
+high_first : (k x : ℕ) → bytes_high_first k x ≡ bytes_of k x
+high_first zero x = refl
+high_first (suc k) x = ap₂ ◌∷◌ (byte k) (high_first k x)
+  where
+    byte : (i : ℕ) → byte_at i x ≡ x / 2 ^ (8 * i) % 256
+    byte zero = ap (λ (y : ℕ). y % 256) (sym (div-one x))
+    byte (suc i) = ap (λ (y : ℕ). x / y % 256) (sym (pow_mul 2 8 (suc i)))
 
--- byte i of w put, and the bytes behind it still to be put
-pub bytes_next : (w x : ℕ) (out : List ℕ) (at i : ℕ) → i < w
-    → sets out (at + i) (bytes_of (w - i) x) ≡ sets (set out (at + i) (x / 2 ^ (8 * (w - 1 - i)) % 256)) (at + (i + 1)) (bytes_of (w - (i + 1)) x)
-bytes_next w x out at i l =
-    let here : w - i ≡ suc (w - 1 - i) = omega arith in
-    let rest : w - (i + 1) ≡ w - 1 - i = omega arith in
-    let next : at + (i + 1) ≡ suc (at + i) = omega arith in
-    rw (here, rest, next)
+-- and without the first j of j + k
+lowest : (j k x : ℕ) → drop j (bytes_high_first (j + k) x) ≡ bytes_high_first k x
+lowest zero k x = rw (zero-add k)
+lowest (suc j) k x = rw (suc-add j k) (lowest j k x)
 
--- all of them put
-pub bytes_last : (w x : ℕ) (out : List ℕ) (at i : ℕ) → i ≡ w → out ≡ sets out (at + i) (bytes_of (w - i) x)
-bytes_last w x out at i e =
-    let none : w - i ≡ 0 = omega arith in
-    rw none
+-- the last w of eight, copied
+pub bytes_copied : (out : List ℕ) (at k w x : ℕ) {eight part : List ℕ} → eight ≡ bytes_high_first 8 x → part ≡ take (8 - (8 - w)) (drop (8 - w) eight) → w ≤ 8 → k ≡ w → at + k ≤ length out
+    → put_mid at k out part ≡ sets out at (bytes_of w x)
+bytes_copied out at k w x {eight} {part} b e m n h =
+    let all : 8 ≡ (8 - w) + w = omega arith in
+    let long : 8 - (8 - w) ≡ length (bytes_of w x) = omega (arith, length_bytes w x) in
+    let last : drop (8 - w) eight ≡ bytes_of w x =
+    ap (drop (8 - w)) b ∙ ap (λ (j : ℕ). drop (8 - w) (bytes_high_first j x)) all ∙ lowest (8 - w) w x ∙ high_first w x in
+    let same : part ≡ bytes_of w x = e ∙ rw (last, long, take-length) in
+    copied out (bytes_of w x) at k same (length_bytes w x ∙ sym n) h
 
 -- ---- numbers put one by one
 

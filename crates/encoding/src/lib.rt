@@ -12,10 +12,9 @@ pub fn put_bytes(out: &mut [u8], at: usize, width: u8, x: u64)
     requires { (at + width ≤ length out.old) × (width ≤ 8) }
     ensures { out.new ≡ sets out.old at (bytes_of width x) }
 {
-    for i in 0..width {
-        let place = width - 1 - i;
-        out[at + i as usize] = ((x >> (8 * place)) % 256) as u8;
-    }
+    let bytes = x.to_be_bytes();
+    let w = width as usize;
+    out[at..at + w].copy_from_slice(&bytes[8 - w..]);
 }
 
 // A number of four bytes.
@@ -31,9 +30,8 @@ pub fn put_powers(out: &mut [u8], at: usize, list: &[u32])
     requires { at + 4 * length list.now ≤ length out.old }
     ensures { out.new ≡ sets out.old at (fours (length list.now) (λ i. power_of_four (get_or list.now i 0))) }
 {
-    let count = list.len();
-    for i in 0..count {
-        let power = Element::GENERATOR.pow(Scalar(list[i]));
+    for (i, &x) in list.iter().enumerate() {
+        let power = Element::GENERATOR.pow(Scalar(x));
         put(out, at + 4 * i, power.0);
     }
 }

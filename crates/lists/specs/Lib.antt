@@ -6,3 +6,5 @@ pub mod Tests
 pub mod TestLaws
 pub mod CallLaws
 pub mod LoadLaws
+pub mod CopyLaws
+pub mod AllLaws

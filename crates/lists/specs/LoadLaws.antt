@@ -1,11 +1,12 @@
 -- What the loops that load a list come to: one store a turn, and past the list's end none.
 -- Assumes nothing.
-use Rattle.std.proofs.Common.{arith, sym, ap, ◌∙◌}
-use Rattle.std.specs.Prelude.{◌≡◌, List, ℕ, ◌+◌, ◌≤◌, ◌<◌, length, set}
+use Rattle.std.proofs.Common.{arith, sym, ap, ◌∙◌, ◌++◌, take, drop, length-take, zero-add}
+use Rattle.std.proofs.lemmas.List.{length-replicate}
+use Rattle.std.specs.Prelude.{◌≡◌, List, ℕ, ◌+◌, ◌≤◌, ◌<◌, length, set, replicate}
 use Rattle.std.proofs.Math.Path.{refl}
 use Rattle.std.proofs.Math.Seq.{set_out}
-use Rattle.lists.specs.Stores.{stored}
-use Rattle.lists.specs.StoreLaws.{stored_next, length_stored}
+use Rattle.lists.specs.Stores.{stored, filled}
+use Rattle.lists.specs.StoreLaws.{stored_next, stored_front, length_stored, length_filled}
 
 module _ {A : Type 0} (list : List A) (base k : ℕ) (f : ℕ → A) where
   -- a turn that stores
@@ -26,6 +27,28 @@ module _ {A : Type 0} (list : List A) (base k : ℕ) (f : ℕ → A) where
   -- the end
   pub loaded : {after : List A} {count : ℕ} → after ≡ stored list base k f → k ≡ count → after ≡ stored list base count f
   loaded e c = e ∙ ap (λ (m : ℕ). stored list base m f) c
+
+-- ---- a loop over the first m places of an array of n times d
+
+module _ {A : Type 0} (n : ℕ) (d : A) (m : ℕ) (f : ℕ → A) where
+  -- those places once k of them are stored
+  abbrev pub part : ℕ → List A
+  part k = stored (take m (filled n d)) 0 k f
+
+  pub part_none : take m (replicate n d) ≡ part 0
+  unfolding stored filled
+  part_none = refl
+
+  pub part_next : (k : ℕ) {items : List A} {x : A} → items ≡ part k → x ≡ f k → set items k x ≡ part (k + 1)
+  part_next k e v = load_in (take m (filled n d)) 0 k f e (sym (zero-add k)) v refl
+
+  pub part_long : (k : ℕ) {items : List A} → items ≡ part k → m ≤ n → length items ≡ m
+  part_long k e l = omega (arith, l, ap length e, length_stored (take m (filled n d)) 0 k f, length-take m (filled n d), length_filled n d)
+
+  -- the array with them
+  pub part_whole : (k : ℕ) {items : List A} → items ≡ part k → m ≤ n → k ≤ m → items ++ drop m (replicate n d) ≡ stored (filled n d) 0 k f
+  unfolding filled
+  part_whole k e l b = ap (λ (s : List A). s ++ drop m (replicate n d)) e ∙ stored_front (replicate n d) m k f (omega (arith, l, length-replicate n d)) b
 
 -- ---- the same with the bounds of the loop
 

@@ -1,7 +1,8 @@
 -- The laws of stores and of filled lists. Assumes nothing.
 use Rattle.std.specs.Prelude.{◌≡◌, ◌≢◌, length, replicate}
 use Rattle.std.proofs.Math.Path.{refl, ap, ap₂}
-use Rattle.std.proofs.Common.{sym, ◌∙◌, arith, zero-add, add-zero, add-suc, suc-add, add-one, get_or-set_same}
+use Rattle.std.proofs.Common.{sym, ◌∙◌, arith, zero-add, add-zero, add-suc, suc-add, add-one, take, drop, length-take, take-append-drop, get_or-set_same}
+use Rattle.std.proofs.lemmas.List.{set-append_left}
 use mathlib.Core.List.{List, [], ◌∷◌, ◌++◌}
 use Prim.Native.Nat.{ℕ, zero, suc, ◌+◌, ◌-◌, ◌≤◌, ◌<◌, min}
 use Rattle.std.proofs.Math.Decide.{ℕ_discrete, dec_le, dec_lt}
@@ -51,6 +52,14 @@ module _ {A : Type 0} where
           let least : min m (length l) ≡ length l = omega arith in
           let rest : m ≡ length l + (m - length l) = omega arith in
           ap (λ (i : ℕ). stored l 0 i f) least ∙ sym (past (m - length l)) ∙ ap (λ (i : ℕ). stored l 0 i f) (sym rest)
+
+  -- stores into the first places alone, as a loop over a slice makes them
+  pub stored_front : (l : List A) (m k : ℕ) (f : ℕ → A) → m ≤ length l → k ≤ m → stored (take m l) 0 k f ++ drop m l ≡ stored l 0 k f
+  unfolding stored
+  stored_front l m zero f h c = take-append-drop m l
+  stored_front l m (suc k) f h c =
+      sym (set-append_left (stored (take m l) 0 k f) (drop m l) (0 + k) (f k) (omega (arith, length_stored (take m l) 0 k f, length-take m l)))
+      ∙ ap (λ (s : List A). set s (0 + k) (f k)) (stored_front l m k f h (omega arith))
 
   -- what was stored is read there
   pub stored_at : (l : List A) (base k : ℕ) (f : ℕ → A) (d : A) → base + k ≤ length l → (i : ℕ) → i < k → get_or (stored l base k f) (base + i) d ≡ f i

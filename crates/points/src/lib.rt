@@ -1,9 +1,10 @@
 // The points of the scheme: those of parties, of packed slots, and where values are committed to.
 #![tactic(auto)]
 
-ghost use Rattle.std.specs.Prelude.{◌≡◌, ◌+◌};
+ghost use Rattle.std.specs.Prelude.{◌≡◌, ℕ, ◌+◌, ◌<◌};
 ghost use Rattle.interpolation.specs.Definitions.{point, slot, committed_point};
-ghost use Rattle.rows.specs.Definitions.{listed};
+ghost use Rattle.field.specs.declared.Scalar.{Scalar};
+ghost use Rattle.rows.specs.Definitions.{most_scalars, listed};
 
 use field::Scalar;
 use rows::{MOST_SCALARS, ROW, Row};
@@ -15,9 +16,10 @@ pub fn point(x: u8, y: u8) -> Scalar
     Scalar::new(x as u32).sub(Scalar::new(y as u32))
 }
 
-// The points 1 - a, 2 - a, .., count of them: where a dealing or the key is committed to.
-pub fn committed_points(a: u8, count: u8) -> Row
-    ensures { result ≡ listed count (committed_point a) }
+// What a rule gives for 1 to count, at most 64.
+fn listed<F: Fn(u8) -> Scalar>(count: u8, rule: F) -> Row
+    requires { F.IsAlwaysCallable rule }
+    ensures { (f : ℕ → Scalar) → ((v : ℕ) → v < most_scalars → (x : Scalar) → F.post rule (v + 1) x → x ≡ f v) → result ≡ listed count f }
 {
     let m = if count < MOST_SCALARS {
         count
@@ -25,24 +27,22 @@ pub fn committed_points(a: u8, count: u8) -> Row
         MOST_SCALARS
     };
     let mut at = [Scalar::ZERO; ROW];
-    for v in 0..m {
-        at[v as usize] = point(v + 1, a);
+    for (v, place) in at[..m as usize].iter_mut().enumerate() {
+        *place = rule(v as u8 + 1);
     }
     Row { at: at, count: m }
+}
+
+// The points 1 - a, 2 - a, .., count of them: where a dealing or the key is committed to.
+pub fn committed_points(a: u8, count: u8) -> Row
+    ensures { result ≡ listed count (committed_point a) }
+{
+    listed(count, |v| point(v, a))
 }
 
 // The slots (packed places) 1 to count: the points 0, -1, ...
 pub fn slot_points(count: u8) -> Row
     ensures { result ≡ listed count (λ v. slot (v + 1)) }
 {
-    let m = if count < MOST_SCALARS {
-        count
-    } else {
-        MOST_SCALARS
-    };
-    let mut at = [Scalar::ZERO; ROW];
-    for v in 0..m {
-        at[v as usize] = point(1, v + 1);
-    }
-    Row { at: at, count: m }
+    listed(count, |k| point(1, k))
 }

@@ -27,7 +27,7 @@ use Rattle.run.specs.Steps.{after_setup, after_dealing, after_go, after_complain
 use Rattle.stages.specs.Definitions.{taken_at, at_stage, handler_at, go_number}
 use Rattle.run.specs.StepLaws.{step_taken, stage_case, answered_number}
 use Rattle.run.specs.NumberLaws.{common, setup_numbers, scalars_numbers, complaint_refusals, dealing_numbers, go_numbers, response_numbers}
-use Rattle.run.specs.declared.Reply.{Reply}
+use Rattle.run.specs.Steps.{Reply}
 use Rattle.stages.specs.declared.Handler.{Handler}
 use Rattle.stages.specs.declared.Handler.TheVariants.{TakeSetup, TakeWaiting, TakeDealing, TakeGo, TakeComplaint, TakeChallenges, TakeShifted, TakeResponse}
 use Rattle.verification.specs.Definitions.{transcript}

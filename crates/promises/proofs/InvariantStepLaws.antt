@@ -29,7 +29,7 @@ use Rattle.run.specs.Steps.{after_setup, after_dealing, after_go, after_complain
 use Rattle.stages.specs.Definitions.{taken_at, at_stage, handler_at, dealing_stage, go_number}
 use Rattle.run.specs.RunLaws.{formed_of, formed_batch}
 use Rattle.run.specs.StepLaws.{stage_case, answered_case}
-use Rattle.run.specs.declared.Reply.{Reply}
+use Rattle.run.specs.Steps.{Reply}
 use Rattle.stages.specs.declared.Handler.{Handler}
 use Rattle.stages.specs.declared.Handler.TheVariants.{TakeSetup, TakeWaiting, TakeDealing, TakeGo, TakeComplaint, TakeChallenges, TakeShifted, TakeResponse}
 use Rattle.promises.specs.Lists.{accepted_from, accepted, of_tag, first, challenge_by, shift_by}

@@ -1,6 +1,6 @@
 -- The page of every log is that of its list of records: the closing lines say what the accepted records have, and each signature that is printed
 -- satisfies the equation with the accepted challenge. Assumes nothing.
-use Rattle.std.specs.Prelude.{◌≡◌, Bool, length, ltb}
+use Rattle.std.specs.Prelude.{◌≡◌, Bool, length, ltb, Option, unwrap_or}
 use Rattle.std.proofs.Math.Path.{refl, ap, ap₂}
 use Rattle.std.proofs.Common.{sym, ◌∙◌}
 use Rattle.std.proofs.Math.Bool.{true, false}
@@ -21,7 +21,8 @@ use Rattle.protocol.proofs.AlikeLaws.{shifted_same}
 use Rattle.verification.specs.Definitions.{transcript}
 use Rattle.run.specs.Runs.{fresh, stage_of, transcript_of, kept}
 use Rattle.run.specs.Steps.{after}
-use Rattle.answers.specs.Answers.{no_sets}
+use Rattle.answers.specs.declared.Sets.{Sets}
+use Rattle.answers.specs.Answers.{no_sets, shown_sets}
 use Rattle.reader.specs.Cutting.{records_of, run_of}
 use Rattle.text.specs.Lines.{feed, line, set_text, set_line}
 use Rattle.closing.specs.Closing.{hold_word, qual_word, bad_word, end_word, sig_line, signature_line, signature_lines, set_lines, closing}
@@ -33,7 +34,7 @@ use Rattle.promises.proofs.Stages.{stage_by_accepted}
 use Rattle.promises.proofs.InvariantLaws.{live_bounds}
 use Rattle.promises.proofs.FinishedLaws.{kept_is}
 use Rattle.promises.proofs.Demand3.{demand_3}
-use Rattle.promises.specs.Claims.{Place, member_lines, closing_of, members_line, signed_lines}
+use Rattle.promises.specs.Claims.{Place, Fixed, member_lines, closing_of, members_line, signed_lines}
 use Rattle.promises.proofs.Answers.{answers}
 
 -- an empty set has no members
@@ -92,13 +93,22 @@ module _ (l : List (List ℕ)) where
           ∙ signed_lines_are e _ (omega arith)
       go false d = refl
 
+  -- the line of one of the sets
+  set_line_is : (word : List ℕ) (mask : Sets → ℕ) (set : ℕ → Bool) → ((m : Fixed l) (i : ℕ) → has (mask m.sets) i ≡ set i) → mask no_sets ≡ 0
+      → set_line word (after l).setup.n (mask (shown_sets (after l))) ≡ members_line (accepted l) word set
+  unfolding shown_sets
+  set_line_is word mask set fixed none =
+      let shown = λ (o : Option Sets). mask (unwrap_or o no_sets) in
+      line_is word (mask (shown_sets (after l))) set
+      (λ m i. let z = (answers l).sets m in ap (λ (o : Option Sets). has (shown o) i) z.fixed ∙ fixed z i)
+      (λ m. ap shown ((answers l).no_sets_before m) ∙ none)
+
   pub sets_are : set_lines (after l) ≡ member_lines (accepted l)
   unfolding set_lines member_lines no_sets
   sets_are =
-      let h = answers l in
-      ap₂ ◌++◌ (line_is hold_word _ (hold (accepted l)) (λ m. (h.sets m).hold_is) (λ m. rw (h.no_sets_before m)))
-      (ap₂ ◌++◌ (line_is qual_word _ (qualified (accepted l)) (λ m. (h.sets m).qual_is) (λ m. rw (h.no_sets_before m)))
-      (line_is bad_word _ (bad (accepted l)) (λ m. (h.sets m).bad_is) (λ m. rw (h.no_sets_before m))))
+      ap₂ ◌++◌ (set_line_is hold_word (λ z. z.hold) (hold (accepted l)) (λ m. m.hold_is) refl)
+      (ap₂ ◌++◌ (set_line_is qual_word (λ z. z.qual) (qualified (accepted l)) (λ m. m.qual_is) refl)
+      (set_line_is bad_word (λ z. z.bad) (bad (accepted l)) (λ m. m.bad_is) refl))
 
   closing_is : closing (after l) ≡ closing_of (accepted l)
   unfolding closing closing_of

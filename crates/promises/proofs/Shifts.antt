@@ -15,7 +15,8 @@ use Rattle.protocol.specs.Alike.{Alike}
 use Rattle.verification.specs.Definitions.{transcript}
 use Rattle.response.specs.Definitions.{response_number}
 use Rattle.run.specs.declared.Run.{Run}
-use Rattle.run.specs.declared.Reply.{Reply}
+use Rattle.run.specs.Steps.{Reply}
+use Rattle.refusals.specs.declared.Refusal.TheVariants.{WrongStage}
 use Rattle.stages.specs.declared.Handler.TheVariants.{TakeResponse, Refuse}
 use Rattle.run.specs.Runs.{well_formed, stage_of, transcript_of}
 use Rattle.run.specs.Steps.{handled, after_response, step_of, after}
@@ -77,7 +78,7 @@ row_any_shift r shift s e =
     z : Run
     z = reshifted shift r
 
-    go : (b : Bool) → (handled (pick b TakeResponse (Refuse 11)) z s).number ≡ (handled (pick b TakeResponse (Refuse 11)) r s).number
+    go : (b : Bool) → (handled (pick b TakeResponse (Refuse WrongStage)) z s).number ≡ (handled (pick b TakeResponse (Refuse WrongStage)) r s).number
     go true =
         answered_number z (response_number z.b z.setup z.dealings z.complaints z.challenges z.responses s) (after_response z s)
         ∙ row_number r shift s

@@ -1,5 +1,5 @@
 -- What the theorems claim of every list of records.
-use Rattle.std.specs.Prelude.{◌≡◌, true, Bool, false, ◌&&◌, not, List, [], ◌∷◌, ◌++◌, ℕ, ◌-◌, ◌≤◌, ◌<◌, zero, suc, ◌+◌, ◌*◌, ◌/◌, ◌%◌, length, eqb, leb}
+use Rattle.std.specs.Prelude.{◌≡◌, true, Bool, false, ◌&&◌, not, List, [], ◌∷◌, ◌++◌, ℕ, ◌-◌, ◌≤◌, ◌<◌, zero, suc, ◌+◌, ◌*◌, ◌/◌, ◌%◌, length, eqb, leb, Option, Some, None}
 use Rattle.lists.specs.Members.{All, Distinct}
 use Rattle.lists.specs.Tests.{pick}
 use Rattle.sets.specs.Masks.{count, has, members}
@@ -15,7 +15,8 @@ use Rattle.protocol.specs.Transcript.{shifted_nonce, valid_share}
 use Rattle.run.specs.declared.Run.{Run}
 use Rattle.run.specs.Runs.{set_challenges, kept, stage_of}
 use Rattle.run.specs.Steps.{after}
-use Rattle.answers.specs.Answers.{no_sets, sets_of, nonce_of, phi_answer, nonce_values, phi_values}
+use Rattle.answers.specs.declared.Sets.{Sets}
+use Rattle.answers.specs.Answers.{sets_of, nonce_of, phi_answer}
 use Rattle.closing.specs.Closing.{hold_word, qual_word, bad_word, end_word, sig_line}
 use Rattle.promises.specs.Lists.{accepted, of_tag, hold, bad, read, shifted_phi, qualified, stage_by, record_of, dealer}
 use Rattle.promises.specs.Places.{Within, is_place}
@@ -60,23 +61,24 @@ reshifted shift r = set_challenges r r.stage (record { shift = shift; numbers = 
 -- of a list of accepted records:
 module _ (l : List (List ℕ)) where
   -- R(u,k), shifted, at stages 3 to 5, at the places of the list
-  unfoldable pub nonce_by : ℕ → ℕ → List Element
-  nonce_by u k = pick ((leb 3 (stage_by l) && leb (stage_by l) 5) && is_place (read l) u k) (shifted_nonce (read l) u k ∷ []) []
+  unfoldable pub nonce_by : ℕ → ℕ → Option Element
+  nonce_by u k = pick ((leb 3 (stage_by l) && leb (stage_by l) 5) && is_place (read l) u k) (Some (shifted_nonce (read l) u k)) None
 
   -- φ(u,k), shifted, at stage 5, at the places of the list
-  unfoldable pub phi_by : ℕ → ℕ → List Scalar
-  phi_by u k = pick (eqb (stage_by l) 5 && is_place (read l) u k) (shifted_phi l u k ∷ []) []
+  unfoldable pub phi_by : ℕ → ℕ → Option Scalar
+  phi_by u k = pick (eqb (stage_by l) 5 && is_place (read l) u k) (Some (shifted_phi l u k)) None
 
 -- HOLD, QUAL and BAD are fixed, and have the members that the accepted records give them
 pub record Fixed (l : List (List ℕ)) : Type 0 where
-  pub fixed : (sets_of (after l)).fixed ≡ true
-  pub hold_is : (i : ℕ) → has (sets_of (after l)).hold i ≡ hold (accepted l) i
-  pub qual_is : (i : ℕ) → has (sets_of (after l)).qual i ≡ qualified (accepted l) i
-  pub bad_is : (i : ℕ) → has (sets_of (after l)).bad i ≡ bad (accepted l) i
+  pub sets : Sets
+  pub fixed : sets_of (after l) ≡ Some sets
+  pub hold_is : (i : ℕ) → has sets.hold i ≡ hold (accepted l) i
+  pub qual_is : (i : ℕ) → has sets.qual i ≡ qualified (accepted l) i
+  pub bad_is : (i : ℕ) → has sets.bad i ≡ bad (accepted l) i
 
--- they are not fixed, and empty
+-- they are not fixed
 abbrev pub Unfixed : List (List ℕ) → Type 0
-Unfixed l = sets_of (after l) ≡ no_sets
+Unfixed l = sets_of (after l) ≡ None
 
 -- the stage is the one that the accepted records bring; the sets are fixed from stage 3 on; and R(u,k) and φ(u,k) are answered where they are
 -- due, and nothing elsewhere
@@ -84,8 +86,8 @@ pub record Answers (l : List (List ℕ)) : Type 0 where
   pub stage : stage_of (after l) ≡ stage_by (accepted l)
   pub sets : 3 ≤ stage_by (accepted l) → Fixed l
   pub no_sets_before : stage_by (accepted l) < 3 → Unfixed l
-  pub nonces : (u k : ℕ) → nonce_values (nonce_of (after l) u k) ≡ nonce_by (accepted l) u k
-  pub phis : (u k : ℕ) → phi_values (phi_answer (after l) u k) ≡ phi_by (accepted l) u k
+  pub nonces : (u k : ℕ) → nonce_of (after l) u k ≡ nonce_by (accepted l) u k
+  pub phis : (u k : ℕ) → phi_answer (after l) u k ≡ phi_by (accepted l) u k
 
 -- ---- complaint rows
 

@@ -16,6 +16,7 @@ use Rattle.complaint.specs.Definitions.{complaint_number}
 use Rattle.response.specs.Definitions.{response_number}
 use Rattle.run.specs.declared.Run.{Run}
 use Rattle.stages.specs.declared.Handler.{Handler}
+use Rattle.refusals.specs.declared.Refusal.TheVariants.{WrongStage}
 use Rattle.stages.specs.declared.Handler.TheVariants.{TakeSetup, TakeWaiting, TakeDealing, TakeGo, TakeComplaint, TakeChallenges, TakeShifted, TakeResponse, Refuse}
 use Rattle.run.specs.Runs.{fresh, well_formed, stage_of}
 use Rattle.parameters.specs.ParameterLaws.{batch_pos}
@@ -99,7 +100,7 @@ unknown_last r s p e = (rest_last r s p (no_length r s (rw e)), unknown_refused 
 
 -- ---- 11: the stage does not take the tag
 
-other_stage : (k : Tag) (r : Run) → k ≢ unknown → stage_of r ≢ taken_at k → handler_at k (stage_of r) ≡ Refuse 11
+other_stage : (k : Tag) (r : Run) → k ≢ unknown → stage_of r ≢ taken_at k → handler_at k (stage_of r) ≡ Refuse WrongStage
 unfolding handler_at
 other_stage SU r d e = off_stage SU r TakeSetup e
 other_stage SX r d e = off_stage SX r TakeWaiting e

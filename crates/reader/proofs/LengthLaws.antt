@@ -9,7 +9,7 @@ use Rattle.records.specs.Tags.{Tag, SU, SX, DE, GO, VE, CH, CS, RE, unknown, tag
 use Rattle.text.specs.Lines.{fields, line}
 use Rattle.text.proofs.LineLaws.{field_few, line_max}
 use Rattle.run.specs.declared.Run.{Run}
-use Rattle.run.specs.declared.Reply.{Reply}
+use Rattle.run.specs.Steps.{Reply}
 use Rattle.run.specs.Runs.{fresh}
 use Rattle.run.specs.Steps.{step_of}
 use Rattle.run.specs.NumberLaws.{number_max}

@@ -17,7 +17,7 @@ use Rattle.response.specs.Definitions.{response_number}
 use Rattle.stages.specs.Definitions.{handler_at}
 use Rattle.stages.specs.declared.Handler.TheVariants.{TakeResponse}
 use Rattle.run.specs.declared.Run.{Run}
-use Rattle.run.specs.declared.Reply.{Reply}
+use Rattle.run.specs.Steps.{Reply}
 use Rattle.run.specs.Runs.{stage_of}
 use Rattle.run.specs.RunLaws.{stage_live}
 use Rattle.run.specs.Steps.{with_row, finished, after_response, handled, step_of, after_from}

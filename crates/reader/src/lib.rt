@@ -7,6 +7,7 @@ ghost use Rattle.records.specs.Tags.{response_length};
 ghost use Rattle.text.specs.Lines.{line};
 ghost use Rattle.text.specs.Texts.{Wrote};
 ghost use Rattle.run.specs.Runs.{fresh};
+ghost use Rattle.run.specs.Steps.{step_of};
 ghost use Rattle.closing.specs.Closing.{closing};
 ghost use Rattle.reader.specs.Cutting.{own_length, by_batch, length_of, records_of, run_of};
 ghost use Rattle.reader.specs.Report.{refuse_word, longest, most_refusal, refusal_lines};
@@ -103,9 +104,7 @@ fn put_refusals(out: &mut [u8], at: usize, position: u32, numbers: &[u8]) -> usi
     ensures { Wrote out.old out.new at result (number_lines position numbers.now) }
 {
     let mut next = at;
-    let count = numbers.len();
-    for x in 0..count {
-        let number = numbers[x];
+    for (x, &number) in numbers.iter().enumerate() {
         if number != 0 {
             next = put_refusal(out, next, position + x as u32, number);
         }
@@ -167,6 +166,17 @@ fn rows_length(b: u8, rows: usize, left: usize) -> usize
     if left < whole { left } else { whole }
 }
 
+// The run after a record, and the number that the record is answered with.
+fn replied(run: Run, record: &[u8]) -> (Run, u8)
+    ensures run { result.0 ≡ (step_of run record.now).run }
+    ensures number { result.1 ≡ (step_of run record.now).number }
+{
+    match run.step(record) {
+        Ok(next) => (next, 0),
+        Err(refusal) => (run, refusal.number()),
+    }
+}
+
 // The page of a log that is not too long, into a buffer with room for every page. Rows from one on that is to be tested are given in one call, where they
 // are many.
 fn put_page(log: &[u8], out: &mut [u8]) -> usize
@@ -184,7 +194,7 @@ fn put_page(log: &[u8], out: &mut [u8]) -> usize
         let mut size = next_length(run, rest);
         let record = &rest[..size];
         // by tag and stage first, which does not copy the run
-        let number = run.untaken(record);
+        let number = refusals::number_of(run.untaken(record));
         if number != 0 {
             numbers[0] = number;
         } else {
@@ -192,12 +202,12 @@ fn put_page(log: &[u8], out: &mut [u8]) -> usize
             if 1 < rows {
                 count = rows;
                 size = rows_length(run.b, rows, rest.len());
-                let reply = bundle::take_rows(run, &rest[..size], &mut numbers[..rows]);
-                run = reply.run;
+                let taken = bundle::take_rows(run, &rest[..size], &mut numbers[..rows]);
+                run = taken.unwrap_or(run);
             } else {
-                let reply = run.step(record);
-                numbers[0] = reply.number;
-                run = reply.run;
+                let reply = replied(run, record);
+                numbers[0] = reply.1;
+                run = reply.0;
             }
         }
         at = put_refusals(out, at, position, &numbers[..count]);

@@ -40,11 +40,11 @@ pub fn number(s: &[u8], at: u32) -> u32
     ensures { result ≡ number_at s.now at }
 {
     let from = at as usize;
-    let b0 = byte(s, from) as u32;
-    let b1 = byte(s, from + 1) as u32;
-    let b2 = byte(s, from + 2) as u32;
-    let b3 = byte(s, from + 3) as u32;
-    b0 * 16777216 + b1 * 65536 + b2 * 256 + b3
+    let b0 = byte(s, from);
+    let b1 = byte(s, from + 1);
+    let b2 = byte(s, from + 2);
+    let b3 = byte(s, from + 3);
+    u32::from_be_bytes([b0, b1, b2, b3])
 }
 
 // Number i of those that stand from a place on.

@@ -2,12 +2,10 @@
 #![tactic(auto)]
 
 ghost use Rattle.std.specs.Prelude.{◌≡◌, true, ◌≤◌};
-ghost use Rattle.lists.specs.Stores.{stored};
-ghost use Rattle.field.specs.Definitions.{scalar};
 ghost use Rattle.parameters.specs.Definitions.{in_bounds};
-ghost use Rattle.records.specs.Bytes.{word};
 ghost use Rattle.rows.specs.Definitions.{basis_of};
 ghost use Rattle.arrays.specs.Arrays.{member_points};
+ghost use Rattle.refusals.specs.Numbers.{number_of};
 ghost use Rattle.response.specs.Definitions.{untested, response_number, with_response, phi_of, signatures_of};
 
 use challenge::Challenges;
@@ -15,6 +13,7 @@ use complaint::Complaints;
 use dealing::{Dealings, Setup};
 use field::Scalar;
 use parameters::{CELLS, PLACES, STRIDE};
+use refusals::Refusal;
 use rows::Basis;
 
 // The accepted response rows. Holder j's numbers stand from (j - 1) × STRIDE.
@@ -25,41 +24,26 @@ pub struct Responses {
     pub numbers: [Scalar; PLACES],
 }
 
-// The list with a row's response numbers from a place on.
-fn load_numbers(list: [Scalar; PLACES], base: u16, bytes: &[u8], count: u16) -> [Scalar; PLACES]
-    ensures { result ≡ stored list base count (λ x. scalar (word bytes.now 4 x)) }
+// The refusal of a response row that needs no test of its numbers.
+#[tactic(auto, unfolding(lists::specs::Tests::require, lists::specs::Tests::or_next))]
+pub fn untested(n: u8, b: u8, sent: u64, holders: u64, bytes: &[u8]) -> Result<(), Refusal>
+    ensures { number_of result ≡ untested n b sent holders bytes.now 0 }
 {
-    let mut next = list;
-    for x in 0..count {
-        let at = base as usize + x as usize;
-        if at < PLACES {
-            next[at] = Scalar(records::word(bytes, 4, x));
-        }
-    }
-    next
-}
-
-// The refusal of a response row that needs no test of its numbers, or 0.
-pub fn untested(n: u8, b: u8, sent: u64, holders: u64, bytes: &[u8]) -> u8
-    ensures { result ≡ untested n b sent holders bytes.now 0 }
-{
-    let number = refusals::response_refusal(n, b, bytes);
-    if number != 0 {
-        return number;
-    }
+    refusals::response_refusal(n, b, bytes)?;
     let j = records::byte(bytes, 2);
     if sets::has(sent, j) {
-        return 12;
+        return Err(Refusal::AlreadySent);
     }
     if !sets::has(holders, j) {
-        return 14;
+        return Err(Refusal::NotInHold);
     }
-    0
+    Ok(())
 }
 
 impl Responses {
-    // The refusal of a response row, or 0.
-    pub fn number(
+    // The refusal of a response row.
+    #[tactic(auto, unfolding(crate::specs::Definitions::response_number, lists::specs::Tests::require, lists::specs::Tests::or_next))]
+    pub fn refusal(
         self,
         b: u8,
         setup: Setup,
@@ -67,18 +51,15 @@ impl Responses {
         complaints: Complaints,
         challenges: Challenges,
         bytes: &[u8],
-    ) -> u8
+    ) -> Result<(), Refusal>
         requires { (in_bounds setup.n setup.t setup.a ≡ true) × (b ≤ setup.n) }
-        ensures { result ≡ response_number b setup dealings complaints challenges self bytes.now }
+        ensures { number_of result ≡ response_number b setup dealings complaints challenges self bytes.now }
     {
-        let number = untested(setup.n, b, self.responders, complaints.holders, bytes);
-        if number != 0 {
-            return number;
-        }
+        untested(setup.n, b, self.responders, complaints.holders, bytes)?;
         if !verification::row_passes(b, setup, dealings, complaints, challenges, bytes) {
-            return 15;
+            return Err(Refusal::FailedResponse);
         }
-        0
+        Ok(())
     }
 
     // With one more response row, of b numbers.
@@ -89,7 +70,7 @@ impl Responses {
         let j = records::byte(bytes, 2);
         let before = arrays::predecessor(j);
         let list = self.numbers;
-        let numbers = load_numbers(list, before as u16 * STRIDE as u16, bytes, b as u16);
+        let numbers = arrays::with_numbers(list, before as u16 * STRIDE as u16, bytes, 4, b as u16);
         let answers = self.count + 1;
         Responses {
             count: answers,
@@ -121,15 +102,15 @@ impl Responses {
         requires { (in_bounds setup.n setup.t setup.a ≡ true) × (b ≤ setup.n) }
         ensures { result ≡ signatures_of b setup shift self list }
     {
-        let a = setup.a;
+        let a = setup.a as usize;
         let basis = arrays::member_points(setup.n, self.responders).basis();
         let mut signatures = list;
-        let count = a as u16 * b as u16;
-        for x in 0..count {
-            let u = (x / a as u16 + 1) as u8;
-            let k = (x % a as u16 + 1) as u8;
+        let count = a * b as usize;
+        for (x, signature) in signatures[..count].iter_mut().enumerate() {
+            let u = (x / a + 1) as u8;
+            let k = (x % a + 1) as u8;
             let phi = self.interpolated(setup.n, basis, u, k);
-            signatures[x as usize] = phi.add(shift);
+            *signature = phi.add(shift);
         }
         signatures
     }

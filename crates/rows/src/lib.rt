@@ -51,16 +51,16 @@ impl Row {
     }
 
     // The inverse of the product of point i's differences from the others.
+    #[tactic(auto, using(crate::proofs::RowLaws::size_max))]
     fn scale(self, i: u8) -> Scalar
         ensures { result ≡ scale (nth self) (size self) i }
     {
         let m = self.len();
         let own = self.item(i);
         let mut below = Scalar::ONE;
-        for l in 0..m {
-            let apart = l != i;
+        for (l, &other) in self.at[..m as usize].iter().enumerate() {
+            let apart = l != i as usize;
             if apart {
-                let other = self.at[l as usize];
                 below = below.mul(own.sub(other));
             }
         }
@@ -68,13 +68,14 @@ impl Row {
     }
 
     // The basis of these points, with one inverse a point.
+    #[tactic(auto, using(crate::proofs::RowLaws::size_max))]
     pub fn basis(self) -> Basis
         ensures { result ≡ basis_of self }
     {
         let m = self.len();
         let mut scales = [Scalar::ZERO; ROW];
-        for i in 0..m {
-            scales[i as usize] = self.scale(i);
+        for (i, scale) in scales[..m as usize].iter_mut().enumerate() {
+            *scale = self.scale(i as u8);
         }
         Basis {
             points: self,
@@ -86,15 +87,15 @@ impl Row {
     }
 
     // For each i the product of x's differences from the first i points.
+    #[tactic(auto, using(crate::proofs::RowLaws::size_max))]
     fn partial_products(self, x: Scalar) -> Row
         ensures { result ≡ partial_products self x }
     {
         let m = self.len();
         let mut products = [Scalar::ZERO; ROW];
         let mut product = Scalar::ONE;
-        for i in 0..m {
-            products[i as usize] = product;
-            let other = self.at[i as usize];
+        for (i, &other) in self.at[..m as usize].iter().enumerate() {
+            products[i] = product;
             product = product.mul(x.sub(other));
         }
         Row {
@@ -104,14 +105,15 @@ impl Row {
     }
 
     // The points in the other order.
+    #[tactic(auto, using(crate::proofs::RowLaws::size_max))]
     fn reversed(self) -> Row
         ensures { result ≡ reversed self }
     {
         let m = self.len();
         let mut at = [Scalar::ZERO; ROW];
-        for i in 0..m {
-            let from = m - 1 - i;
-            at[i as usize] = self.at[from as usize];
+        for (i, place) in at[..m as usize].iter_mut().enumerate() {
+            let from = m as usize - 1 - i;
+            *place = self.at[from];
         }
         Row { at: at, count: m }
     }
@@ -124,28 +126,26 @@ impl Row {
     }
 
     // The sum of weight × value, of these weights.
+    #[tactic(auto, using(crate::proofs::RowLaws::size_max))]
     pub fn sum(self, values: [Scalar; ROW]) -> Scalar
         ensures { result ≡ sum_of self values }
     {
-        let m = self.len();
+        let m = self.len() as usize;
         let mut sum = Scalar::ZERO;
-        for i in 0..m {
-            let w = self.at[i as usize];
-            let v = values[i as usize];
+        for (&w, &v) in self.at[..m].iter().zip(&values) {
             sum = sum.add(w.mul(v));
         }
         sum
     }
 
     // The product of value^weight, of these weights, with one chain of squarings for all values.
+    #[tactic(auto, using(crate::proofs::RowLaws::size_max))]
     pub fn product(self, values: [Element; ROW]) -> Element
         ensures { result ≡ product_of self values }
     {
-        let m = self.len();
+        let m = self.len() as usize;
         let mut chain = Chain::none();
-        for i in 0..m {
-            let w = self.at[i as usize];
-            let v = values[i as usize];
+        for (&w, &v) in self.at[..m].iter().zip(&values) {
             chain = chain.with(v, w);
         }
         chain.value()
@@ -154,6 +154,7 @@ impl Row {
 
 impl Basis {
     // The weights of the points at x, each from the products of x's differences from the points before it and after it.
+    #[tactic(auto, using(crate::proofs::RowLaws::size_max))]
     pub fn weights(self, x: Scalar) -> Row
         ensures { result ≡ weights_by self x }
     {
@@ -163,10 +164,10 @@ impl Basis {
         let prefix = points.partial_products(x);
         let suffix = points.reversed().partial_products(x);
         let mut weights = [Scalar::ZERO; ROW];
-        for i in 0..m {
-            let k = m - 1 - i;
-            let others = prefix.at[i as usize].mul(suffix.at[k as usize]);
-            weights[i as usize] = others.mul(scales.at[i as usize]);
+        for (i, weight) in weights[..m as usize].iter_mut().enumerate() {
+            let k = m as usize - 1 - i;
+            let others = prefix.at[i].mul(suffix.at[k]);
+            *weight = others.mul(scales.at[i]);
         }
         Row {
             at: weights,

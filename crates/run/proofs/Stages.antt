@@ -9,6 +9,7 @@ use borrow.Author.Tests.{eqb-true}
 use Rattle.lists.specs.TestLaws.{pick_case}
 use Rattle.records.specs.Tags.{Tag, SU, SX, DE, GO, VE, CH, CS, RE, unknown, code, decoded, tag_of}
 use Rattle.records.proofs.RecordLaws.{decoded_code}
+use Rattle.refusals.specs.declared.Refusal.TheVariants.{WrongStage}
 use Rattle.run.specs.declared.Run.{Run}
 use Rattle.stages.specs.declared.Handler.{Handler}
 use Rattle.stages.specs.declared.Handler.TheVariants.{TakeSetup, TakeWaiting, TakeDealing, TakeGo, TakeComplaint, TakeChallenges, TakeShifted, TakeResponse, Refuse}
@@ -32,7 +33,7 @@ Past (Refuse k) = ⊥
 past_at : (g : Tag) (stage : ℕ) (h : Handler) → (Past h → (0 < taken_at g) × (taken_at g < 6)) → Past (at_stage g stage h) → (0 < stage) × (stage < 6)
 unfolding at_stage
 past_at g stage h f =
-    pick_case (λ (a : Handler). Past a → (0 < stage) × (stage < 6)) (eqb stage (taken_at g)) h (Refuse 11)
+    pick_case (λ (a : Handler). Past a → (0 < stage) × (stage < 6)) (eqb stage (taken_at g)) h (Refuse WrongStage)
     (λ e p. let at = eqb-true stage (taken_at g) e in let b = f p in (omega arith, omega arith)) (λ e p. absurd p)
 
 past_stage : (g : Tag) (stage : ℕ) → Past (handler_at g stage) → (0 < stage) × (stage < 6)

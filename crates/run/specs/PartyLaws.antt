@@ -13,7 +13,7 @@ use Rattle.stages.specs.Definitions.{handler_at, go_number}
 use Rattle.stages.specs.declared.Handler.{Handler}
 use Rattle.stages.specs.declared.Handler.TheVariants.{TakeSetup, TakeWaiting, TakeDealing, TakeGo, TakeComplaint, TakeChallenges, TakeShifted, TakeResponse, Refuse}
 use Rattle.run.specs.declared.Run.{Run}
-use Rattle.run.specs.declared.Reply.{Reply}
+use Rattle.run.specs.Steps.{Reply}
 use Rattle.run.specs.Runs.{begun, fresh, stage_of}
 use Rattle.run.specs.Steps.{after_setup, after_dealing, after_go, after_complaint, after_challenges, after_shifted, with_row, finished, after_response, answered, handled, step_of, after_from}
 use Rattle.run.specs.StepLaws.{answered_case}

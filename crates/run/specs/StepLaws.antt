@@ -5,8 +5,9 @@ use Rattle.std.proofs.lemmas.Bool.{eqb-false}
 use Rattle.lists.specs.TestLaws.{pick_case}
 use Rattle.records.specs.Tags.{Tag, tag_of}
 use Rattle.run.specs.declared.Run.{Run}
-use Rattle.run.specs.declared.Reply.{Reply}
+use Rattle.run.specs.Steps.{Reply}
 use Rattle.stages.specs.declared.Handler.{Handler}
+use Rattle.refusals.specs.declared.Refusal.TheVariants.{WrongStage}
 use Rattle.stages.specs.declared.Handler.TheVariants.{Refuse}
 use Rattle.run.specs.Runs.{stage_of}
 use Rattle.run.specs.Steps.{refused, answered, handled, step_of}
@@ -27,7 +28,7 @@ pub step_taken : (g : Tag) (r : Run) (s : List ℕ) → tag_of s ≡ g → stage
 step_taken g r s e z = step_tag g r s e ∙ ap (λ (k : ℕ). handled (handler_at g k) r s) z
 
 -- at another it is refused
-pub off_stage : (g : Tag) (r : Run) (h : Handler) → (stage_of r ≡ taken_at g → ⊥) → at_stage g (stage_of r) h ≡ Refuse 11
+pub off_stage : (g : Tag) (r : Run) (h : Handler) → (stage_of r ≡ taken_at g → ⊥) → at_stage g (stage_of r) h ≡ Refuse WrongStage
 unfolding at_stage
 off_stage g r h e = rw (ne_eqb (stage_of r) (taken_at g) e)
 
@@ -36,7 +37,7 @@ pub stage_case : (P : Reply → Type 0) (g : Tag) (h : Handler) (r : Run) (s : L
     → (stage_of r ≡ taken_at g → P (handled h r s)) → ((stage_of r ≡ taken_at g → ⊥) → P (refused r 11)) → P (handled (at_stage g (stage_of r) h) r s)
 unfolding at_stage handled
 stage_case P g h r s at off =
-    pick_case (λ (y : Handler). P (handled y r s)) (eqb (stage_of r) (taken_at g)) h (Refuse 11) (λ e. at (eqb-true _ _ e)) (λ e. off (eqb-false _ _ e))
+    pick_case (λ (y : Handler). P (handled y r s)) (eqb (stage_of r) (taken_at g)) h (Refuse WrongStage) (λ e. at (eqb-true _ _ e)) (λ e. off (eqb-false _ _ e))
 
 -- what holds of the next run, and of a refusal with the number
 pub answered_case : (P : Reply → Type 0) (r : Run) (k : ℕ) (next : Run)

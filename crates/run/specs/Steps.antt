@@ -1,9 +1,11 @@
 -- What a record does to a run (document 01, "The run", "From the input", "From the state"; CS is of document 02, request 2.1,
 -- SX and GO of request 2.5).
-use Rattle.std.specs.Prelude.{ℕ, ◌+◌, Bool, true, false, List, [], ◌∷◌, eqb}
+use Rattle.std.specs.Prelude.{ℕ, ◌+◌, Bool, true, false, List, [], ◌∷◌, eqb, Result, Ok, Err}
 use Rattle.lists.specs.Tests.{pick}
 use Rattle.parameters.specs.Definitions.{quorum, batch}
 use Rattle.records.specs.Tags.{tag_of}
+use Rattle.refusals.specs.declared.Refusal.{Refusal}
+use Rattle.refusals.specs.Numbers.{number}
 use Rattle.refusals.specs.Refusals.{setup_refusal, challenges_refusal, shifted_refusal}
 use Rattle.dealing.specs.Definitions.{setup_of, begun_batch, dealing_number, with_dealing}
 use Rattle.complaint.specs.Definitions.{complaint_number, with_complaint, complaint_stage}
@@ -11,7 +13,6 @@ use Rattle.response.specs.Definitions.{untested, response_number, with_response,
 use Rattle.challenge.specs.Definitions.{with_challenges, with_shifted}
 use Rattle.stages.specs.Definitions.{handler_at, dealing_stage, go_number}
 use Rattle.run.specs.declared.Run.{Run}
-use Rattle.run.specs.declared.Reply.{Reply}
 use Rattle.stages.specs.declared.Handler.{Handler}
 use Rattle.stages.specs.declared.Handler.TheVariants.{TakeSetup, TakeWaiting, TakeDealing, TakeGo, TakeComplaint, TakeChallenges, TakeShifted, TakeResponse, Refuse}
 use Rattle.run.specs.Runs.{set_batch, set_dealings, set_complaints, set_challenges, set_responses, set_signatures, begun, fresh, stage_of}
@@ -66,8 +67,18 @@ after_response r s =
 
 -- ---- the step
 
+-- what a record gets: the next run and 0, or the run as it was and the refusal's number
+pub record Reply : Type 0 where
+  pub run : Run
+  pub number : ℕ
+
 abbrev pub refused : Run → ℕ → Reply
 refused r k = record { run = r; number = k }
+
+-- the reply that an answer of the code is to a record given to a run
+abbrev pub reply_of : Run → Result Run Refusal → Reply
+reply_of r (Ok next) = record { run = next; number = 0 }
+reply_of r (Err k) = refused r (number k)
 
 -- a record at its stage: its refusal, or the next run
 abbrev pub answered : Run → ℕ → Run → Reply
@@ -82,7 +93,7 @@ handled TakeComplaint r s = answered r (complaint_number r.setup r.dealings r.co
 handled TakeChallenges r s = answered r (challenges_refusal r.setup.a r.b s) (after_challenges r s)
 handled TakeShifted r s = answered r (shifted_refusal r.setup.a r.b s) (after_shifted r s)
 handled TakeResponse r s = answered r (response_number r.b r.setup r.dealings r.complaints r.challenges r.responses s) (after_response r s)
-handled (Refuse k) r s = refused r k
+handled (Refuse k) r s = refused r (number k)
 
 -- what a record, any bytes, does to a run
 unfoldable pub step_of : Run → List ℕ → Reply
@@ -98,7 +109,7 @@ untaken_by TakeComplaint r s = complaint_number r.setup r.dealings r.complaints 
 untaken_by TakeChallenges r s = challenges_refusal r.setup.a r.b s
 untaken_by TakeShifted r s = shifted_refusal r.setup.a r.b s
 untaken_by TakeResponse r s = untested r.setup.n r.b r.responses.responders r.complaints.holders s 0
-untaken_by (Refuse k) r s = k
+untaken_by (Refuse k) r s = number k
 
 unfoldable pub untaken : Run → List ℕ → ℕ
 untaken r s = untaken_by (handler_at (tag_of s) (stage_of r)) r s

@@ -4,6 +4,7 @@ use Rattle.std.specs.Prelude.{ℕ, ◌-◌, Bool, ◌&&◌, ◌||◌, List, leng
 use Rattle.lists.specs.Tests.{pick, require}
 use Rattle.parameters.specs.Definitions.{batch}
 use Rattle.records.specs.Tags.{Tag, SU, SX, DE, GO, VE, CH, CS, RE, unknown, go_length}
+use Rattle.refusals.specs.declared.Refusal.TheVariants.{WrongStage, UnknownTag}
 use Rattle.stages.specs.declared.Handler.{Handler}
 use Rattle.stages.specs.declared.Handler.TheVariants.{TakeSetup, TakeWaiting, TakeDealing, TakeGo, TakeComplaint, TakeChallenges, TakeShifted, TakeResponse, Refuse}
 
@@ -21,7 +22,7 @@ taken_at unknown = 7
 
 -- at the stage that takes a tag its handler, at another refusal 11
 unfoldable pub at_stage : Tag → ℕ → Handler → Handler
-at_stage g stage h = pick (eqb stage (taken_at g)) h (Refuse 11)
+at_stage g stage h = pick (eqb stage (taken_at g)) h (Refuse WrongStage)
 
 -- what a record of a tag meets at a stage: its handler, or refusal 1 or 11
 unfoldable pub handler_at : Tag → ℕ → Handler
@@ -33,7 +34,7 @@ handler_at VE stage = at_stage VE stage TakeComplaint
 handler_at CH stage = at_stage CH stage TakeChallenges
 handler_at CS stage = at_stage CS stage TakeShifted
 handler_at RE stage = at_stage RE stage TakeResponse
-handler_at unknown stage = Refuse 1
+handler_at unknown stage = Refuse UnknownTag
 
 -- ---- waiting, and GO
 

@@ -4,10 +4,13 @@
 
 ghost use Rattle.std.specs.Prelude.{◌≡◌, ◌≤◌};
 ghost use Rattle.records.specs.Tags.{decoded};
+ghost use Rattle.refusals.specs.Numbers.{number_of};
 ghost use Rattle.stages.specs.Definitions.{handler_at, dealing_stage, go_number, batch_fits};
 
+use refusals::Refusal;
+
 // What a record meets by its tag and the run's stage: the handler that takes it, or refusal 1 or 11. TakeGo refuses with 11 in a run that does not wait.
-#[derive(Clone, Copy)]
+#[derive(Clone, Copy, Debug, PartialEq, Eq)]
 pub enum Handler {
     TakeSetup,
     TakeWaiting,
@@ -17,7 +20,7 @@ pub enum Handler {
     TakeChallenges,
     TakeShifted,
     TakeResponse,
-    Refuse(u8),
+    Refuse(Refusal),
 }
 
 // Each tag is taken at one stage only.
@@ -28,56 +31,57 @@ pub fn taken_by(tag: u8, stage: u8) -> Handler
     match tag {
         1 => match stage {
             0 => Handler::TakeSetup,
-            _ => Handler::Refuse(11),
+            _ => Handler::Refuse(Refusal::WrongStage),
         },
         2 => match stage {
             1 => Handler::TakeDealing,
-            _ => Handler::Refuse(11),
+            _ => Handler::Refuse(Refusal::WrongStage),
         },
         3 => match stage {
             2 => Handler::TakeComplaint,
-            _ => Handler::Refuse(11),
+            _ => Handler::Refuse(Refusal::WrongStage),
         },
         4 => match stage {
             3 => Handler::TakeChallenges,
-            _ => Handler::Refuse(11),
+            _ => Handler::Refuse(Refusal::WrongStage),
         },
         5 => match stage {
             4 => Handler::TakeResponse,
-            _ => Handler::Refuse(11),
+            _ => Handler::Refuse(Refusal::WrongStage),
         },
         6 => match stage {
             3 => Handler::TakeShifted,
-            _ => Handler::Refuse(11),
+            _ => Handler::Refuse(Refusal::WrongStage),
         },
         7 => match stage {
             0 => Handler::TakeWaiting,
-            _ => Handler::Refuse(11),
+            _ => Handler::Refuse(Refusal::WrongStage),
         },
         8 => match stage {
             1 => Handler::TakeGo,
-            _ => Handler::Refuse(11),
+            _ => Handler::Refuse(Refusal::WrongStage),
         },
-        _ => Handler::Refuse(1),
+        _ => Handler::Refuse(Refusal::UnknownTag),
     }
 }
 
-// The refusal of a GO at stage 1 with m dealings, or 0: 11 in a run that does not wait, whose b is fixed; the length; 17 before n-t dealings.
-pub fn go_number(n: u8, t: u8, m: u8, b: u8, bytes: &[u8]) -> u8
-    ensures { result ≡ go_number n t m b bytes.now }
+// The refusal of a GO at stage 1 with m dealings: 11 in a run that does not wait, whose b is fixed; the length; 17 before n-t dealings.
+#[tactic(auto, unfolding(crate::specs::Definitions::go_number, lists::specs::Tests::require))]
+pub fn go_refusal(n: u8, t: u8, m: u8, b: u8, bytes: &[u8]) -> Result<(), Refusal>
+    ensures { number_of result ≡ go_number n t m b bytes.now }
 {
     let fixed = b != 0;
     if fixed {
-        return 11;
+        return Err(Refusal::WrongStage);
     }
     let other = bytes.len() != records::GO_LENGTH;
     if other {
-        return 2;
+        return Err(Refusal::WrongLength);
     }
     if n as u16 > m as u16 + t as u16 {
-        return 17;
+        return Err(Refusal::FewDealings);
     }
-    0
+    Ok(())
 }
 
 // The stage that m dealings bring: 1 in a run that waits, whose b is not fixed yet; else 2 after n-t of them.

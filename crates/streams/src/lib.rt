@@ -1,7 +1,8 @@
 // Streams that programs read on standard input, the run of a log in one, and answers with a buffer in hex.
 #![tactic(auto)]
 
-ghost use Rattle.std.specs.Prelude.{◌≤◌, length};
+ghost use Rattle.std.specs.Prelude.{◌≡◌, ◌↔◌, ◌+◌, ◌<◌, ◌≤◌, ◌++◌, length, take, IfSome, IsSome};
+ghost use Rattle.records.specs.Bytes.{number_at};
 
 use reader::LONGEST;
 use run::Run;
@@ -23,6 +24,7 @@ pub fn two(s: &[u8], at: usize) -> usize
 // A number of four bytes.
 pub fn four(s: &[u8], at: usize) -> u32
     requires { at ≤ 16777216 }
+    ensures { result ≡ number_at s.now at }
 {
     records::number(s, at as u32)
 }
@@ -31,10 +33,7 @@ pub fn four(s: &[u8], at: usize) -> u32
 const FILLER: u8 = 165;
 
 pub fn fill(out: &mut [u8]) {
-    let size = out.len();
-    for i in 0..size {
-        out[i] = FILLER;
-    }
+    out.fill(FILLER);
 }
 
 // A byte as two digits of base sixteen.
@@ -45,9 +44,8 @@ fn print_byte(rt: &impl Print, byte: u8) {
 // The line of an answer: its number, and the buffer.
 pub fn answer(rt: &impl Print, number: u8, out: &[u8]) {
     console::print_number(rt, number as u64);
-    let size = out.len();
-    for i in 0..size {
-        print_byte(rt, out[i]);
+    for &byte in out {
+        print_byte(rt, byte);
     }
     console::end_line(rt);
 }
@@ -67,8 +65,7 @@ pub fn run_of(log: &[u8]) -> Run {
             let rest = &log[from..];
             let size = reader::next_length(run, rest);
             if size <= rest.len() {
-                let reply = run.step(&rest[..size]);
-                run = reply.run;
+                run = run.step(&rest[..size]).unwrap_or(run);
                 from += size;
             }
         }
@@ -76,19 +73,25 @@ pub fn run_of(log: &[u8]) -> Run {
     run
 }
 
-// Where a log ends that stands behind its length; under NUMBER where it is cut or too long.
-pub fn log_end(s: &[u8]) -> usize
-    ensures { result ≤ length s.now }
+// What stands behind its length in four bytes, and what follows it; none where it is cut.
+pub fn split_part(s: &[u8]) -> Option<(&[u8], &[u8])>
+    ensures whole { IsSome result ↔ (4 + number_at s.now 0 ≤ length s.now) }
+    ensures size { IfSome result (λ p. length p.0.now ≡ number_at s.now 0) }
+    ensures parts { IfSome result (λ p. s.now ≡ take 4 s.now ++ (p.0.now ++ p.1.now)) }
+    ensures shorter { IfSome result (λ p. length p.1.now < length s.now) }
 {
-    if s.len() < NUMBER {
-        return 0;
+    let (_, behind) = s.split_at_checked(NUMBER)?;
+    behind.split_at_checked(four(s, 0) as usize)
+}
+
+// A log that stands behind its length, and what follows it; none where it is cut or too long.
+pub fn split_log(s: &[u8]) -> Option<(&[u8], &[u8])>
+    ensures parts { IfSome result (λ p. s.now ≡ take 4 s.now ++ (p.0.now ++ p.1.now)) }
+    ensures log { IfSome result (λ p. length p.0.now ≤ 65536) }
+{
+    let (log, rest) = split_part(s)?;
+    if LONGEST < log.len() {
+        return None;
     }
-    let size = four(s, 0) as usize;
-    if LONGEST < size {
-        return 0;
-    }
-    if s.len() - NUMBER < size {
-        return 0;
-    }
-    NUMBER + size
+    Some((log, rest))
 }

@@ -6,7 +6,7 @@ use Rattle.lists.specs.TestLaws.{pick_case}
 use Rattle.records.specs.Bytes.{byte_at}
 use Rattle.records.specs.Tags.{Tag, SU, SX, DE, GO, VE, CH, CS, RE, unknown, code, tag_of, setup_length, go_length}
 use Rattle.run.specs.declared.Run.{Run}
-use Rattle.run.specs.declared.Reply.{Reply}
+use Rattle.run.specs.Steps.{Reply}
 use Rattle.run.specs.Runs.{fresh}
 use Rattle.run.specs.Steps.{step_of, refused, after_from}
 use Rattle.reader.specs.Cutting.{own_length, length_at, length_of}

@@ -8,6 +8,7 @@ use Rattle.run.specs.declared.Run.{Run}
 use Rattle.run.specs.Runs.{fresh}
 use Rattle.run.specs.Steps.{after}
 use Rattle.run.specs.PartyLaws.{Few, few_fresh, few_after}
+use Rattle.answers.specs.Answers.{shown_sets}
 use Rattle.closing.specs.Closing.{set_lines}
 use Rattle.closing.proofs.LengthLaws.{sets_max}
 use Rattle.reader.specs.Cutting.{run_of}
@@ -23,7 +24,7 @@ unfolding after
 read_few log = few_after fresh few_fresh (read_of log)
 
 lines_same : (r s : Run) → Enough r s → set_lines r ≡ set_lines s
-unfolding set_lines
+unfolding set_lines shown_sets
 lines_same r s h = rw (h.sets_same, h.setup_same)
 
 -- the lines of its sets are those of the log

@@ -18,10 +18,10 @@ use run::Run;
 // Room for every short page.
 pub const SHORT: usize = 2150;
 
-// HOLD, QUAL and BAD of a log, fixed or not, and the bytes that were read for them.
+// HOLD, QUAL and BAD of a log, once they are fixed, and the bytes that were read for them.
 #[derive(Clone, Copy)]
 pub struct Summary {
-    pub sets: Sets,
+    pub sets: Option<Sets>,
     pub bytes: usize,
 }
 
@@ -76,10 +76,9 @@ fn read_on(log: &[u8]) -> Passage
         let passed = reader::record_length(run, record);
         bytes += counted_length(passed, record);
         // a refused record does not copy the run
-        let taken = run.untaken(record) == 0;
+        let taken = run.untaken(record).is_ok();
         if taken {
-            let reply = run.step(record);
-            run = reply.run;
+            run = run.step(record).unwrap_or(run);
         }
         from += length;
     }

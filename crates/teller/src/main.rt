@@ -16,11 +16,7 @@ const LINES: usize = 284000;
 
 // How many of the first party, of the first two, and so on to the first `n`, are in the set, added up.
 fn sizes(mask: u64, n: u8) -> u32 {
-    let mut sum: u32 = 0;
-    for i in 0..n {
-        sum += sets::size(mask, i + 1) as u32;
-    }
-    sum
+    (0..n).map(|i| sets::size(mask, i + 1) as u32).sum()
 }
 
 // The mask of an entry, from its upper half and its lower.
@@ -41,39 +37,40 @@ fn put_entry(out: &mut [u8], at: usize, entry: &[u8]) -> usize
 }
 
 // The lines of a stream.
-fn put_entries(s: &[u8], out: &mut [u8]) -> usize
-    requires { 284000 ≤ length out.old }
-    ensures { result ≤ length out.new }
+fn put_entries(s: &[u8], out: &mut [u8; LINES]) -> usize
+    requires { length s.now ≤ 65536 }
+    ensures { result ≤ 284000 }
 {
-    if STREAM < s.len() {
-        return text::put_text(out, 0, b"long\n");
-    }
-    let entries = s.len() / ENTRY;
+    let entries = s.chunks_exact(ENTRY);
+    let rest = entries.remainder();
     let mut next: usize = 0;
-    for i in 0..entries {
-        next = put_entry(out, next, &s[ENTRY * i..]);
+    for entry in entries {
+        next = put_entry(out, next, entry);
     }
-    if s.len() % ENTRY == 0 {
+    if rest.is_empty() {
         return next;
     }
     text::put_text(out, next, b"broken\n")
 }
 
 // Prints the lines of a stream.
-fn tell(rt: &impl Print, s: &[u8], out: &mut [u8])
-    requires { 284000 ≤ length out.old }
+fn tell(rt: &impl Print, s: &[u8])
+    requires { length s.now ≤ 65536 }
 {
-    let size = put_entries(s, out);
-    console::print_bytes(rt, &out[..size]);
+    let mut lines = [0u8; LINES];
+    let size = put_entries(s, &mut lines);
+    console::print_bytes(rt, &lines[..size]);
 }
 
 fn main(rt: HostRuntime) {
     // One byte more than a stream may have, so that one which is too long is seen.
     let mut stream = [0u8; STREAM + 1];
-    let Some(got) = console::read_input(&mut rt.stdin(), &mut stream) else {
-        console::say(&rt.stderr(), b"teller", b"the masks could not be read");
-        return;
-    };
-    let mut lines = [0u8; LINES];
-    tell(&rt, &stream[..got], &mut lines);
+    console::serve_input(
+        &rt,
+        &mut rt.stdin(),
+        "teller",
+        "masks",
+        &mut stream,
+        |s| tell(&rt, s),
+    );
 }

@@ -1,11 +1,12 @@
 -- Laws of the page's texts: how decimals, fields and sets grow, and how long they are at most. Assumes nothing.
 use Rattle.std.specs.Prelude.{◌≡◌, refl, List, [], ◌∷◌, ◌++◌, ℕ, zero, suc, ◌+◌, ◌*◌, ◌/◌, ◌%◌, ◌^◌, ◌≤◌, ◌<◌, length, take, get_or, ltb}
-use Rattle.std.proofs.Common.{sym, ap, append-nil, append_assoc, pow-suc, div-lt_iff_lt-mul, add-one, arith, length-append, take-suc, lt-ltb}
+use Rattle.std.proofs.Common.{sym, ap, ◌∙◌, length-take, append-nil, append_assoc, pow-suc, div-lt_iff_lt-mul, add-one, arith, length-append, take-suc, lt-ltb}
 use Rattle.lists.specs.Tests.{pick}
 use Rattle.lists.specs.TestLaws.{pick_case}
 use Rattle.sets.specs.Masks.{has, members}
 use Rattle.sets.proofs.MemberLaws.{count_le}
 use Rattle.text.specs.Texts.{Wrote}
+use Rattle.text.proofs.TextLaws.{wrote_length}
 use Rattle.text.specs.Lines.{space, dash, nought, decimal_to, decimal, field, fields, line, set_text, set_line}
 
 -- ---- decimals
@@ -69,6 +70,14 @@ fields_snoc (m ∷ l) n = rw (fields_snoc l n) (sym (append_assoc (field m) (fie
 
 pub fields_take : (l : List ℕ) (i : ℕ) → i < length l → fields (take (i + 1) l) ≡ fields (take i l) ++ field (get_or l i 0)
 fields_take l i h = rw (add-one i, take-suc l i 0 h) (fields_snoc (take i l) (get_or l i 0))
+
+-- after a word and the first x fields the buffer is as long as it was, and the place has gone on by at most 11 for each
+pub fields_room : {l m k : List ℕ} {i j n : ℕ} {word : List ℕ} (numbers : List ℕ) (x : ℕ) → Wrote l m i j word → Wrote m k j n (fields (take x numbers))
+    → (length k ≡ length l) × (n ≤ i + length word + 11 * x)
+fields_room {l} {m} {k} {i} {j} {n} {word} numbers x v w = (
+  wrote_length w ∙ wrote_length v,
+  omega (arith, v.place, w.place, fields_max (take x numbers), length-take x numbers),
+)
 
 pub line_max : (word l : List ℕ) → length (line word l) ≤ length word + 11 * length l + 1
 unfolding line

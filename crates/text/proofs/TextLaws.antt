@@ -1,9 +1,11 @@
 -- The laws of texts stored in a buffer. Assumes nothing.
-use Rattle.std.specs.Prelude.{◌≡◌, refl, List, [], ◌∷◌, ◌++◌, ℕ, ◌+◌, length, set}
+use Rattle.std.specs.Prelude.{◌≡◌, refl, List, [], ◌∷◌, ◌++◌, ℕ, ◌+◌, ◌≤◌, length, set}
 use Rattle.std.proofs.Common.{sym, ap, ap₂, ◌∙◌, zero-add, arith, length-append}
 use Rattle.std.proofs.lemmas.List.Edits.{sets}
 use Rattle.std.proofs.Math.Seq.{length-sets}
+use borrow.Rule.Slice.PartMut.{put_mid}
 use Rattle.lists.specs.StoreLaws.{sets_append}
+use Rattle.lists.specs.CopyLaws.{copied}
 use Rattle.text.specs.Texts.{Ahead, Wrote}
 
 pub wrote_none : (l : List ℕ) (at : ℕ) → Wrote l l at at []
@@ -14,6 +16,10 @@ wrote_length {l} {m} {i} {j} {s} w = ap length w.bytes ∙ length-sets l i s
 
 pub wrote_byte : (l : List ℕ) (at b : ℕ) → Wrote l (set l at b) at (at + 1) (b ∷ [])
 wrote_byte l at b = record { place = refl; bytes = refl }
+
+-- a text, copied
+pub wrote_copy : (l text : List ℕ) (at k : ℕ) {part : List ℕ} → part ≡ text → length text ≡ k → at + k ≤ length l → Wrote l (put_mid at k l part) at (at + length text) text
+wrote_copy l text at k e n h = record { place = refl; bytes = copied l text at k e n h }
 
 pub wrote_append : {l m k : List ℕ} {i j n : ℕ} {s t : List ℕ} → Wrote l m i j s → Wrote m k j n t → Wrote l k i n (s ++ t)
 wrote_append {l} {m} {k} {i} {j} {n} {s} {t} p q =

@@ -6,14 +6,13 @@ ghost use Rattle.text.specs.Lines.{decimal, field, line, set_line};
 ghost use Rattle.text.specs.Texts.{Wrote};
 
 // A text.
+#[tactic(auto, using(crate::proofs::TextLaws::wrote_copy))]
 pub fn put_text(out: &mut [u8], at: usize, text: &[u8]) -> usize
     requires { at + length text.now ≤ length out.old }
     ensures { Wrote out.old out.new at result text.now }
 {
     let count = text.len();
-    for i in 0..count {
-        out[at + i] = text[i];
-    }
+    out[at..at + count].copy_from_slice(text);
     at + count
 }
 
@@ -46,9 +45,8 @@ pub fn put_line(out: &mut [u8], at: usize, word: &[u8], numbers: &[u32]) -> usiz
     ensures { Wrote out.old out.new at result (line word.now numbers.now) }
 {
     let mut next = put_text(out, at, word);
-    let count = numbers.len();
-    for i in 0..count {
-        next = put_field(out, next, numbers[i]);
+    for &n in numbers {
+        next = put_field(out, next, n);
     }
     out[next] = b'\n';
     next + 1

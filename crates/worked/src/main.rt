@@ -2,16 +2,13 @@
 // arithmetic gives; then document 02's: the worked log with a shift, committees of 33 and more, a key that is the identity, a run that waits for more dealers; last the replies to records that are none.
 #![tactic(auto)]
 
-use console::{end_line, print_number, print_test};
+use Share::{Right, Wrong};
+use console::{end_line, print_bytes, print_number, print_test};
 use field::{Element, Scalar};
 use replies::give;
 use rows::Row;
 use run::Run;
 use std::io::Print;
-
-fn begin_line(rt: &impl Print, letter: &[u8]) {
-    console::print_bytes(rt, letter);
-}
 
 // HOLD, QUAL and BAD as masks; R and φ of (1,1), (2,1) and (3,1), the last outside the batch; the stage.
 fn say(rt: &impl Print, run: Run) {
@@ -32,51 +29,51 @@ fn set_up(rt: &impl Print) -> Run {
     )
 }
 
-// The dealing of dealer 2, with the share for 2 as it should be, 1, or as 2.
-fn deal_second(rt: &impl Print, run: Run, right: bool) -> Run {
-    if right {
-        return give(
-            rt,
-            run,
-            b"DE\x02\x00\x00\x00\x00\x04\x00\x00\x00\x04\x00\x00\x00\x01\x00\x00\x00\x01\x00\x00\x00\x01\x00\x00\x00\x01",
-        );
-    }
-    give(
-        rt,
-        run,
-        b"DE\x02\x00\x00\x00\x00\x04\x00\x00\x00\x04\x00\x00\x00\x01\x00\x00\x00\x02\x00\x00\x00\x01\x00\x00\x00\x01",
-    )
+// A dealer's share for holder 2: as it should be, or greater by 1.
+#[derive(Clone, Copy, Debug, PartialEq, Eq)]
+enum Share {
+    Right,
+    Wrong,
 }
 
-// The dealing of dealer 3, with the share for 2 as it should be, 4, or as 5.
-fn deal_third(rt: &impl Print, run: Run, right: bool) -> Run {
-    if right {
-        return give(
-            rt,
-            run,
-            b"DE\x03\x00\x00\x00\x00\x10\x00\x00\x00\x40\x00\x00\x00\x03\x00\x00\x00\x04\x00\x00\x00\x05\x00\x00\x00\x06",
-        );
+// The bytes of a dealing, and the last byte of its share for holder 2.
+const DEALING: usize = 28;
+
+const SHARE_BYTE: usize = 19;
+
+// A dealing, given as right or with that share wrong.
+fn deal_one(rt: &impl Print, run: Run, right: &[u8; DEALING], share: Share) -> Run {
+    let mut bytes = *right;
+    if share == Wrong {
+        bytes[SHARE_BYTE] = bytes[SHARE_BYTE].wrapping_add(1);
     }
-    give(
-        rt,
-        run,
-        b"DE\x03\x00\x00\x00\x00\x10\x00\x00\x00\x40\x00\x00\x00\x03\x00\x00\x00\x05\x00\x00\x00\x05\x00\x00\x00\x06",
-    )
+    give(rt, run, &bytes)
 }
 
 // The three dealings of the worked log.
-fn deal_three(rt: &impl Print, begun: Run, second_right: bool, third_right: bool) -> Run {
-    let first = give(
+fn deal_three(rt: &impl Print, begun: Run, second: Share, third: Share) -> Run {
+    let one = give(
         rt,
         begun,
         b"DE\x01\x00\x00\x00\x00\x01\x00\x00\x00\x04\x00\x00\x00\x01\x00\x00\x00\x02\x00\x00\x00\x03\x00\x00\x00\x04",
     );
-    deal_third(rt, deal_second(rt, first, second_right), third_right)
+    let two = deal_one(
+        rt,
+        one,
+        b"DE\x02\x00\x00\x00\x00\x04\x00\x00\x00\x04\x00\x00\x00\x01\x00\x00\x00\x01\x00\x00\x00\x01\x00\x00\x00\x01",
+        second,
+    );
+    deal_one(
+        rt,
+        two,
+        b"DE\x03\x00\x00\x00\x00\x10\x00\x00\x00\x40\x00\x00\x00\x03\x00\x00\x00\x04\x00\x00\x00\x05\x00\x00\x00\x06",
+        third,
+    )
 }
 
 // The worked log up to the dealings.
-fn deal(rt: &impl Print, second_right: bool, third_right: bool) -> Run {
-    deal_three(rt, set_up(rt), second_right, third_right)
+fn deal(rt: &impl Print, second: Share, third: Share) -> Run {
+    deal_three(rt, set_up(rt), second, third)
 }
 
 // Up to the complaint rows, with one from holder 2.
@@ -103,21 +100,21 @@ fn respond(rt: &impl Print, run: Run) -> Run {
 
 // (A) the worked log; (B), (C): rows that are refused right after its challenges.
 fn worked(rt: &impl Print) {
-    begin_line(rt, b"A ");
-    let run = challenge(rt, deal(rt, true, true), b"VE\x02\x00\x00\x00\x00\x00");
+    print_bytes(rt, b"A ");
+    let run = challenge(rt, deal(rt, Right, Right), b"VE\x02\x00\x00\x00\x00\x00");
     say(rt, respond(rt, run));
-    begin_line(rt, b"B ");
+    print_bytes(rt, b"B ");
     give(rt, run, b"RE\x01\x00\x00\x00\x00\x00\x00\x00\x00\x00");
     end_line(rt);
-    begin_line(rt, b"C ");
+    print_bytes(rt, b"C ");
     give(rt, run, b"RE\x02\x00\x00\x00\x00\x0b\x00\x00\x00\x16");
     end_line(rt);
 }
 
 // (D): dealer 3's share for 2 is wrong and blamed.
 fn blamed(rt: &impl Print) {
-    begin_line(rt, b"D ");
-    let run = challenge(rt, deal(rt, true, false), b"VE\x02\x00\x00\x00\x00\x04");
+    print_bytes(rt, b"D ");
+    let run = challenge(rt, deal(rt, Right, Wrong), b"VE\x02\x00\x00\x00\x00\x04");
     let one = give(rt, run, b"RE\x02\x00\x00\x00\x00\x06\x00\x00\x00\x0a");
     say(
         rt,
@@ -127,15 +124,15 @@ fn blamed(rt: &impl Print) {
 
 // (E): a false blame.
 fn false_blame(rt: &impl Print) {
-    begin_line(rt, b"E ");
-    give(rt, deal(rt, true, true), b"VE\x02\x00\x00\x00\x00\x04");
+    print_bytes(rt, b"E ");
+    give(rt, deal(rt, Right, Right), b"VE\x02\x00\x00\x00\x00\x04");
     end_line(rt);
 }
 
 // (F), (G): parameters within the bounds, and outside.
 fn bounds(rt: &impl Print) {
     let fresh = Run::fresh();
-    begin_line(rt, b"F ");
+    print_bytes(rt, b"F ");
     set_up(rt);
     give(
         rt,
@@ -143,7 +140,7 @@ fn bounds(rt: &impl Print) {
         b"SU\x20\x01\x0f\x00\x00\x00\x00\x04\x00\x00\x00\x10",
     );
     end_line(rt);
-    begin_line(rt, b"G ");
+    print_bytes(rt, b"G ");
     give(
         rt,
         fresh,
@@ -159,7 +156,7 @@ fn bounds(rt: &impl Print) {
 
 // (H): the greatest scalar as a share, and q.
 fn scalars(rt: &impl Print) {
-    begin_line(rt, b"H ");
+    print_bytes(rt, b"H ");
     let begun = set_up(rt);
     give(
         rt,
@@ -180,14 +177,14 @@ fn print_scalar(rt: &impl Print, x: Scalar) {
 
 // (I): 4 and P-1 as elements; (J): the inverse of 2; (K): the weights of the points 2 and 3 at 0.
 fn arithmetic(rt: &impl Print) {
-    begin_line(rt, b"I ");
+    print_bytes(rt, b"I ");
     print_test(rt, Element::read(4).is_element());
     print_test(rt, Element::read(Element::MODULUS - 1).is_element());
     end_line(rt);
-    begin_line(rt, b"J ");
+    print_bytes(rt, b"J ");
     print_scalar(rt, Scalar(2).inverse());
     end_line(rt);
-    begin_line(rt, b"K ");
+    print_bytes(rt, b"K ");
     let mut points = [Scalar::ZERO; 64];
     points[0] = Scalar(2);
     points[1] = Scalar(3);
@@ -203,17 +200,17 @@ fn arithmetic(rt: &impl Print) {
 
 // (L): more than t blamed, so that nothing is taken after.
 fn too_many_blamed(rt: &impl Print) {
-    begin_line(rt, b"L ");
+    print_bytes(rt, b"L ");
     say(
         rt,
-        challenge(rt, deal(rt, false, false), b"VE\x02\x00\x00\x00\x00\x06"),
+        challenge(rt, deal(rt, Wrong, Wrong), b"VE\x02\x00\x00\x00\x00\x06"),
     );
 }
 
 // The worked log with CS in place of CH, and a shift of 5: R and φ of (1,1) before the challenges and after them, and all at the end.
 fn shifted(rt: &impl Print) {
-    begin_line(rt, b"shift ");
-    let held = hold(rt, deal(rt, true, true), b"VE\x02\x00\x00\x00\x00\x00");
+    print_bytes(rt, b"shift ");
+    let held = hold(rt, deal(rt, Right, Right), b"VE\x02\x00\x00\x00\x00\x00");
     replies::print_signature(rt, held, 1, 1);
     let run = give(
         rt,
@@ -227,7 +224,7 @@ fn shifted(rt: &impl Print) {
 // Committees of 33 and 64 parties within the bounds, of 65 and 64 outside, and of four parties a complaint row as long as those of 33.
 fn wide(rt: &impl Print) {
     let fresh = Run::fresh();
-    begin_line(rt, b"wide ");
+    print_bytes(rt, b"wide ");
     give(
         rt,
         fresh,
@@ -248,7 +245,7 @@ fn wide(rt: &impl Print) {
         fresh,
         b"SU\x40\x01\x20\x00\x00\x00\x00\x04\x00\x00\x00\x10",
     );
-    let dealt = deal(rt, true, true);
+    let dealt = deal(rt, Right, Right);
     give(rt, dealt, b"VE\x02\x00\x00\x00\x00\x00\x00\x00\x00\x00");
     end_line(rt);
 }
@@ -257,7 +254,7 @@ fn wide(rt: &impl Print) {
 // commits to 1 everywhere.
 fn identity(rt: &impl Print) {
     let fresh = Run::fresh();
-    begin_line(rt, b"identity ");
+    print_bytes(rt, b"identity ");
     give(
         rt,
         fresh,
@@ -298,7 +295,7 @@ fn deal_fourth(rt: &impl Print, run: Run) -> Run {
 // The worked log begun by SX, with a fourth dealing, so that there is a third signature. GO is refused in a run begun by SU, before n-t dealings, with a
 // byte behind it, and a second time; the dealing of dealer 4 a second time.
 fn waited(rt: &impl Print) {
-    begin_line(rt, b"wait ");
+    print_bytes(rt, b"wait ");
     give(rt, set_up(rt), b"GO\x00");
     let begun = give(
         rt,
@@ -307,7 +304,7 @@ fn waited(rt: &impl Print) {
     );
     give(rt, begun, b"GO");
     give(rt, begun, b"GO\x00");
-    let four = deal_fourth(rt, deal_three(rt, begun, true, true));
+    let four = deal_fourth(rt, deal_three(rt, begun, Right, Right));
     deal_fourth(rt, four);
     let gone = give(rt, four, b"GO");
     give(rt, gone, b"GO");
@@ -333,7 +330,7 @@ fn waited(rt: &impl Print) {
 
 // Records that are none: no byte, one byte, a tag alone, no tag, and a setup that is late.
 fn senseless(rt: &impl Print) {
-    begin_line(rt, b"none ");
+    print_bytes(rt, b"none ");
     let begun = set_up(rt);
     give(rt, begun, b"");
     give(rt, begun, b"D");

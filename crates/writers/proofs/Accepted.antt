@@ -21,7 +21,7 @@ use Rattle.complaint.specs.Definitions.{complaint_number}
 use Rattle.verification.specs.Definitions.{transcript}
 use Rattle.response.specs.Definitions.{response_number}
 use Rattle.run.specs.declared.Run.{Run}
-use Rattle.run.specs.declared.Reply.{Reply}
+use Rattle.run.specs.Steps.{Reply}
 use Rattle.run.specs.Runs.{fresh, begun, well_formed, stage_of, transcript_of}
 use Rattle.run.specs.Steps.{handled, step_of}
 use Rattle.stages.specs.Definitions.{taken_at, at_stage, handler_at}

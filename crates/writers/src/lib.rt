@@ -7,12 +7,14 @@ ghost use Rattle.lists.specs.Tests.{pick, all_to};
 ghost use Rattle.sets.specs.Masks.{has, mask_of};
 ghost use Rattle.field.specs.Definitions.{is_scalar};
 ghost use Rattle.parameters.specs.Definitions.{most_parties};
+ghost use Rattle.refusals.specs.Numbers.{number_of};
 ghost use Rattle.encoding.specs.Bytes.{fours};
 ghost use Rattle.run.specs.Runs.{well_formed};
 ghost use Rattle.dealing.specs.Definitions.{may_blame};
 ghost use Rattle.writers.specs.Writers.{complaint_refused, complaint_bytes, shares_refused, response_refused, combined_share, response_for, response_bytes};
 
 use field::Scalar;
+use refusals::Refusal;
 use run::Run;
 
 // The accepted dealers whose share for j is not valid.
@@ -22,50 +24,47 @@ fn wrong_dealers(run: Run, j: u8) -> u64
 {
     let n = run.setup.n;
     let dealers = run.dealings.dealers;
-    let list = run.dealings.wrong;
     let mut mask: u64 = 0;
-    for i in 0..n {
-        if sets::has(dealers, i + 1) {
-            if sets::has(list[i as usize], j) {
-                mask = sets::insert(mask, i + 1);
+    for (i, &wrong) in run.dealings.wrong[..n as usize].iter().enumerate() {
+        let dealer = i as u8 + 1;
+        if sets::has(dealers, dealer) {
+            if sets::has(wrong, j) {
+                mask = sets::insert(mask, dealer);
             }
         }
     }
     mask
 }
 
-fn complaint_refused(run: Run, j: u8, room: usize) -> u8
-    ensures { result ≡ complaint_refused run j room }
+fn complaint_refused(run: Run, j: u8, room: usize) -> Result<(), Refusal>
+    ensures { number_of result ≡ complaint_refused run j room }
 {
     let other = run.stage_of() != 2;
     if other {
-        return 11;
+        return Err(Refusal::WrongStage);
     }
     if !parameters::is_party(run.setup.n, j) {
-        return 5;
+        return Err(Refusal::NoParty);
     }
     if room != records::complaint_length(run.setup.n) {
-        return 9;
+        return Err(Refusal::WrongRoom);
     }
-    0
+    Ok(())
 }
 
 // VE, from a run and j: it blames exactly the accepted dealers whose share for j is not valid.
-pub fn write_complaint(run: Run, j: u8, out: &mut [u8]) -> u8
-    ensures number { result ≡ complaint_refused run j (length out.old) }
-    ensures bytes { out.new ≡ pick (eqb result 0) (complaint_bytes run j) out.old }
+pub fn write_complaint(run: Run, j: u8, out: &mut [u8]) -> Result<(), Refusal>
+    ensures number { number_of result ≡ complaint_refused run j (length out.old) }
+    ensures bytes { out.new ≡ pick (eqb (number_of result) 0) (complaint_bytes run j) out.old }
 {
-    let number = complaint_refused(run, j, out.len());
-    if number != 0 {
-        return number;
-    }
+    complaint_refused(run, j, out.len())?;
     let mask = wrong_dealers(run, j);
     out[0] = b'V';
     out[1] = b'E';
     out[2] = j;
     out[3] = 0;
     encoding::put_bytes(out, 4, records::mask_width(run.setup.n), mask);
-    0
+    Ok(())
 }
 
 // Whether dealer i's share is a scalar, or is not read: i is not in QUAL.
@@ -84,46 +83,46 @@ fn shares_in_range(qual: u64, n: u8, shares: &[u32]) -> bool
     requires { length shares.now ≡ n }
     ensures { result ≡ all_to n (λ i. not (has qual (i + 1)) || is_scalar (get_or shares.now i 0)) }
 {
-    for i in 0..n {
-        if !share_in_range(qual, i + 1, shares[i as usize]) {
+    for (i, &share) in shares[..n as usize].iter().enumerate() {
+        if !share_in_range(qual, i as u8 + 1, share) {
             return false;
         }
     }
     true
 }
 
-// The refusal of F(j) and the shares, or 0.
-fn shares_refused(run: Run, key: u32, shares: &[u32], room: usize) -> u8
-    ensures { result ≡ shares_refused run key shares.now room }
+// The refusal of F(j) and the shares.
+fn shares_refused(run: Run, key: u32, shares: &[u32], room: usize) -> Result<(), Refusal>
+    ensures { number_of result ≡ shares_refused run key shares.now room }
 {
     let n = run.setup.n;
     if shares.len() != n as usize {
-        return 10;
+        return Err(Refusal::WrongCount);
     }
     if !Scalar::accepts(key) {
-        return 6;
+        return Err(Refusal::NotScalar);
     }
     if !shares_in_range(answers::unblamed(run), n, shares) {
-        return 6;
+        return Err(Refusal::NotScalar);
     }
     if room != records::response_length(run.b) {
-        return 9;
+        return Err(Refusal::WrongRoom);
     }
-    0
+    Ok(())
 }
 
-fn response_refused(run: Run, j: u8, key: u32, shares: &[u32], room: usize) -> u8
-    ensures { result ≡ response_refused run j key shares.now room }
+fn response_refused(run: Run, j: u8, key: u32, shares: &[u32], room: usize) -> Result<(), Refusal>
+    ensures { number_of result ≡ response_refused run j key shares.now room }
 {
     let other = run.stage_of() != 4;
     if other {
-        return 11;
+        return Err(Refusal::WrongStage);
     }
     if !parameters::is_party(run.setup.n, j) {
-        return 5;
+        return Err(Refusal::NoParty);
     }
     if !sets::has(run.complaints.holders, j) {
-        return 14;
+        return Err(Refusal::NotInHold);
     }
     shares_refused(run, key, shares, room)
 }
@@ -134,10 +133,10 @@ fn combined_share(qual: u64, n: u8, shares: &[u32], u: u8) -> Scalar
     ensures { result ≡ combined_share n (has qual) shares.now u }
 {
     let mut sum = Scalar::ZERO;
-    for i in 0..n {
-        if sets::has(qual, i + 1) {
-            let share = Scalar(shares[i as usize]);
-            sum = sum.add(combination::coefficient(i + 1, u).mul(share));
+    for (i, &share) in shares[..n as usize].iter().enumerate() {
+        let dealer = i as u8 + 1;
+        if sets::has(qual, dealer) {
+            sum = sum.add(combination::coefficient(dealer, u).mul(Scalar(share)));
         }
     }
     sum
@@ -163,18 +162,21 @@ fn put_responses(out: &mut [u8], run: Run, j: u8, key: u32, shares: &[u32])
 }
 
 // RE, from a run, j, F(j) and n shares by dealer number.
-pub fn write_response(run: Run, j: u8, key: u32, shares: &[u32], out: &mut [u8]) -> u8
-    ensures number { result ≡ response_refused run j key shares.now (length out.old) }
-    ensures bytes { out.new ≡ pick (eqb result 0) (response_bytes run j key shares.now) out.old }
+pub fn write_response(
+    run: Run,
+    j: u8,
+    key: u32,
+    shares: &[u32],
+    out: &mut [u8],
+) -> Result<(), Refusal>
+    ensures number { number_of result ≡ response_refused run j key shares.now (length out.old) }
+    ensures bytes { out.new ≡ pick (eqb (number_of result) 0) (response_bytes run j key shares.now) out.old }
 {
-    let number = response_refused(run, j, key, shares, out.len());
-    if number != 0 {
-        return number;
-    }
+    response_refused(run, j, key, shares, out.len())?;
     out[0] = b'R';
     out[1] = b'E';
     out[2] = j;
     out[3] = 0;
     put_responses(out, run, j, key, shares);
-    0
+    Ok(())
 }

@@ -1,63 +1,61 @@
 -- `nonce_at` meets its contract: each test settles one factor of the definition. Assumes nothing.
-use mathlib.Core.Bool.{not}
 use native.Mathlib.Omega.{arith}
-use borrow.Author.Tests.{le-leb, lt-leb}
-use Rattle.lists.specs.CallLaws.{holds, fails}
-use Prim.Native.Nat.{◌≤◌, ◌<◌}
+use borrow.Author.Tests.{leb-true}
+use mathlib.Core.Bool.{true, ◌&&◌}
+use Prim.Native.Nat.{ℕ, ◌≤◌}
 use mathlib.Core.Path.{◌≡◌, refl, sym, ap, ap₂, ◌∙◌}
+use lib.Dec.{leb}
+use Rattle.std.specs.Prelude.{Option, Some}
+use Rattle.lists.specs.TestLaws.{and_left, and_right}
 use Rattle.interpolation.proofs.PointLaws.{slot_is}
 use Rattle.parameters.specs.ParameterLaws.{bounds_test}
+use Rattle.field.specs.declared.Element.{Element}
 use Rattle.field.specs.Definitions.{product}
 use Rattle.protocol.specs.Transcript.{nonce, shifted_element, shifted_nonce, combined_at}
-use Rattle.answers.specs.declared.Nonce.TheVariants as N
 use Rattle.verification.specs.Definitions.{transcript}
+use Rattle.run.specs.declared.Run.{Run}
 use Rattle.run.specs.Runs.{stage_of, transcript_of}
-use Rattle.run.specs.RunLaws.{formed_of, stage_live}
+use Rattle.run.specs.RunLaws.{Formed, formed_of, stage_live}
 use Rattle.answers.specs.Answers.{nonce_of}
+use Rattle.answers.proofs.RangeLaws.{ranged}
 use Rattle.answers.proofs.nonce_at.Goals as goal
+use Rattle.answers.proofs.nonce_at.Goals.{After-contains, then-not-contains-via-then-not-contains, then-not-contains-via-else-not-contains+then-not-in_batch}
 use Rattle.answers.proofs.nonce_at.Lts as lts
 use Rattle.answers.proofs.nonce_at.Reads as reads
 use Rattle.answers.proofs.nonce_at.Tie as tie
 
-pub returns-then-stage-lt3 : goal.returns-then-stage-lt3
-unfolding nonce_of
-returns-then-stage-lt3 c =
-    let r = c.args.run in
-    let l : stage_of r < 3 = rw c.stage_of-stage.ensures at c.if-stage-lt3.true in
-    rw (lt-leb 3 (stage_of r) l)
+-- whether the run is at stages 3 to 5
+staged : (c : After-contains) → let g = stage_of c.args.run in c.contains.result ≡ (leb 3 g && leb g 5)
+staged c =
+    let range = c.new.ensures in
+    ranged 3 5 c.stage_of-stage.result range.start range.end range.exhausted c.contains.ensures.value
+    ∙ ap (λ (g : ℕ). leb 3 g && leb g 5) c.stage_of-stage.ensures
 
-pub returns-then-stage-gt5 : goal.returns-then-stage-gt5
+pub returns-then-not-contains : goal.returns-then-not-contains
 unfolding nonce_of
-returns-then-stage-gt5 c =
-    let r = c.args.run in
-    let l : 3 ≤ stage_of r = rw c.stage_of-stage.ensures at c.if-stage-lt3.false in
-    let h : 5 < stage_of r = rw c.stage_of-stage.ensures at c.if-stage-gt5.true in
-    rw (le-leb 3 (stage_of r) l, lt-leb (stage_of r) 5 h)
+returns-then-not-contains c =
+    let asked = staged c.before in
+    elim c.then-not-contains.branch [
+      | then-not-contains-via-then-not-contains w ↦
+          rw (← asked, w.if-not-contains.true)
+      | then-not-contains-via-else-not-contains+then-not-in_batch w ↦
+          rw (← asked, w.if-not-contains.false, ← w.in_batch.ensures, w.if-not-in_batch.true)
+    ]
 
-pub returns-then-not-in_batch : goal.returns-then-not-in_batch
-unfolding nonce_of
-returns-then-not-in_batch c =
-    let stage = c.before.before.before.before in
-    let r = stage.args.run in
-    let l : 3 ≤ stage_of r = rw stage.stage_of-stage.ensures at c.if-stage-lt3.false in
-    let h : stage_of r ≤ 5 = rw stage.stage_of-stage.ensures at c.if-stage-gt5.false in
-    rw (le-leb 3 (stage_of r) l, le-leb (stage_of r) 5 h, fails c.in_batch.ensures (ap not c.if-not-in_batch.true))
-
--- the run's stage, where it is asked for its parts
-live : (c : lts.Else3 tie.the-claims reads.Pre reads.Post) → (3 ≤ stage_of c.args.run) × (stage_of c.args.run ≤ 5)
-live c =
-    let stage = c.before.before.before.before in
-    (rw stage.stage_of-stage.ensures at c.if-stage-lt3.false, rw stage.stage_of-stage.ensures at c.if-stage-gt5.false)
+-- a run at these stages has its parts
+formed : (r : Run) → (leb 3 (stage_of r) && leb (stage_of r) 5) ≡ true → Formed r
+formed r e =
+    let low : 3 ≤ stage_of r = leb-true 3 (stage_of r) (and_left _ _ e) in
+    let high : stage_of r ≤ 5 = leb-true (stage_of r) 5 (and_right (leb 3 (stage_of r)) _ e) in
+    formed_of r (stage_live r (stage_of r) refl (omega arith) (omega arith)).1
 
 pub combined_at-nonce-requires : goal.combined_at-nonce-requires
 combined_at-nonce-requires c =
-    let asked = c.before.before.before.before in
-    let r = asked.args.run in
-    let l = live asked in
-    bounds_test (formed_of r (stage_live r (stage_of r) refl (omega arith) (omega arith)).1).bounds
+    let asked = c.before.before.before.before.before.before.before in
+    bounds_test (formed asked.args.run (sym (staged asked) ∙ c.if-not-contains.false)).bounds
 
 -- what the code found before the shift is R(u,k)
-found : (c : lts.After-combined_at tie.the-claims reads.Pre reads.Post) → let a = c.args in
+found : (c : lts.After-combined_at tie.the-claims reads.Pre reads.Post tie.handed_clauses) → let a = c.args in
     c.combined_at-nonce.result ≡ nonce (transcript_of a.run) a.u a.k
 unfolding nonce transcript_of
 found c =
@@ -68,7 +66,6 @@ pub returns : goal.returns
 unfolding nonce_of shifted_nonce shifted_element transcript_of transcript
 returns c =
     let made = c.before.before.before in
-    let asked = made.before.before.before.before.before in
-    let r = asked.args.run in
-    rw (le-leb 3 (stage_of r) (live asked).0, le-leb (stage_of r) 5 (live asked).1, holds asked.in_batch.ensures (ap not asked.if-not-in_batch.false))
-    (ap N.Is (c.mul.ensures ∙ ap₂ product (found made) c.pow.ensures))
+    let asked = made.before.before.before.before.before.before.before.before in
+    rw (← staged asked, c.if-not-contains.false, ← c.in_batch.ensures, c.if-not-in_batch.false)
+    (ap {B = Option Element} Some (c.mul.ensures ∙ ap₂ product (found made) c.pow.ensures))

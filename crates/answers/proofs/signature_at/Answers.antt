@@ -1,15 +1,13 @@
 -- `signature_at` meets its contract: the number that is kept at the place of (u,k), which is among the kept ones. Assumes nothing.
-use mathlib.Core.Path.{ap}
-use mathlib.Core.Bool.{not}
 use borrow.Author.Tests.{leb-true, eq-eqb}
 use native.Mathlib.Omega.{arith}
 use native.Mathlib.Nat.{mul_comm}
 use Prim.Native.Nat.{ℕ, ◌+◌, ◌*◌, ◌-◌, ◌≤◌, ◌<◌}
 use mathlib.Core.Path.{◌≡◌, refl, sym, ◌∙◌}
 use mathlib.Core.Bool.{true, false, and-eq-true_iff}
-use lib.Arith.{digits_lt}
 use lib.Dec.{eqb}
-use Rattle.lists.specs.CallLaws.{holds, fails, is_not}
+use lib.Arith.{digits_lt}
+use Rattle.lists.specs.CallLaws.{is_not}
 use Rattle.parameters.specs.Definitions.{cells}
 use Rattle.parameters.specs.ParameterLaws.{cells_max}
 use Rattle.arrays.specs.Arrays.{cell}
@@ -18,9 +16,7 @@ use Rattle.run.specs.Runs.{stage_of, kept}
 use Rattle.run.specs.RunLaws.{formed_of, formed_batch, stage_live}
 use Rattle.answers.specs.Answers.{in_batch, phi_answer}
 use Rattle.answers.proofs.signature_at.Goals as goal
-use Rattle.answers.proofs.signature_at.Lts as lts
-use Rattle.answers.proofs.signature_at.Reads as reads
-use Rattle.answers.proofs.signature_at.Tie as tie
+use Rattle.answers.proofs.signature_at.Goals.{then-early-via-then-early, then-early-via-else-early+then-not-in_batch}
 
 -- (u,k) of the batch of a run at stage 5: both are at least 1, and their place is among the kept ones
 placed : (r : Run) (u k : ℕ) → stage_of r ≡ 5 → in_batch r u k ≡ true → (1 ≤ u) × (1 ≤ k) × ((u - 1) * r.setup.a + (k - 1) < cells)
@@ -41,41 +37,30 @@ placed r u k e h =
 pub returns-then-early : goal.returns-then-early
 unfolding phi_answer
 returns-then-early c =
-    let early : eqb (stage_of c.args.run) 5 ≡ false = is_not c.stage_of-early.ensures c.if-early.true in
-    rw early
+    let g = stage_of c.args.run in
+    elim c.then-early.branch [
+      | then-early-via-then-early w ↦
+          let early : eqb g 5 ≡ false = is_not c.stage_of-early.ensures w.if-early.true in
+          rw early
+      | then-early-via-else-early+then-not-in_batch w ↦
+          let done : eqb g 5 ≡ true = eq-eqb _ _ (sym c.stage_of-early.ensures ∙ w.if-early.false) in
+          rw (done, ← w.in_batch.ensures, w.if-not-in_batch.true)
+    ]
 
--- past the first test the run is at stage 5
-done : (c : lts.Else1 tie.the-claims reads.Pre reads.Post) → stage_of c.args.run ≡ 5
-done c = sym c.stage_of-early.ensures ∙ c.if-early.false
-
-pub returns-then-not-in_batch : goal.returns-then-not-in_batch
-unfolding phi_answer
-returns-then-not-in_batch c = rw (eq-eqb _ _ (done c.before.before), fails c.in_batch.ensures (ap not c.if-not-in_batch.true))
-
-here : (c : lts.Else2 tie.the-claims reads.Pre reads.Post) → let a = c.args in
+-- past the test the run is at stage 5, and (u,k) in its batch
+here : (c : goal.Else-not-in_batch) → let a = c.args in
     (1 ≤ a.u) × (1 ≤ a.k) × ((a.u - 1) * a.run.setup.a + (a.k - 1) < cells)
-here c = placed _ _ _ (done c.before.before) (holds c.in_batch.ensures (ap not c.if-not-in_batch.false))
+here c = placed _ _ _ (sym c.stage_of-early.ensures ∙ c.if-early.false) (sym c.in_batch.ensures ∙ c.if-not-in_batch.false)
 
 pub overflow_sub-at : goal.overflow_sub-at
 overflow_sub-at c = (here c).0
 
-pub overflow_mul-at : goal.overflow_mul-at
-overflow_mul-at c = omega (arith, (here c.before).2)
-
 pub overflow_sub-at-2 : goal.overflow_sub-at-2
-overflow_sub-at-2 c = (here c.before).1
-
-pub overflow_add-at : goal.overflow_add-at
-overflow_add-at c = omega (arith, (here c.before).2)
-
-pub offset_bounds-list-at : goal.offset_bounds-list-at
-offset_bounds-list-at c = omega (arith, (here c.before.before).2)
+overflow_sub-at-2 c = (here c).1
 
 pub bounds-list-at : goal.bounds-list-at
-bounds-list-at c = omega (arith, (here c.before.before).2)
+bounds-list-at c = omega (arith, (here c.before).2)
 
 pub returns : goal.returns
 unfolding phi_answer kept cell
-returns c =
-    let e = c.before.before.before in
-    rw (eq-eqb _ _ (done e.before.before), holds e.in_batch.ensures (ap not e.if-not-in_batch.false)) refl
+returns c = rw (eq-eqb _ _ (sym c.stage_of-early.ensures ∙ c.if-early.false), ← c.in_batch.ensures, c.if-not-in_batch.false) refl

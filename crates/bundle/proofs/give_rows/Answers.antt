@@ -17,7 +17,7 @@ use Rattle.verification.specs.Definitions.{row_passes}
 use Rattle.field.specs.declared.Element.{Element}
 use Rattle.verification.specs.Tests.{qual_values}
 use Rattle.run.specs.declared.Run.{Run}
-use Rattle.run.specs.declared.Reply.{Reply}
+use Rattle.run.specs.Steps.{Reply}
 use Rattle.run.specs.RunLaws.{Formed, formed_of, formed_batch, stage_live}
 use Rattle.run.specs.Steps.{step_of, untaken, after_from, after_response}
 use Rattle.run.specs.RefusalLaws.{untaken_refused}
@@ -82,12 +82,12 @@ lent j =
     let s = (start l.before.before).args.bytes.now in
     ap₂ (λ (n : ℕ) (t : List ℕ). take n t) (measured j) (left_is s l.loop-x.from) ∙ row_is (sized l.before.before).response_length-length.result (drop l.loop-x.from s)
 
-asked : (u : lts.After-row_refusal tie.the-claims reads.Pre reads.Post goal.the-invariant-loop-x goal.the-decreases-loop-x) →
-    let l = u.before.before.before.before in
-    u.row_refusal-number.result ≡ untaken l.loop-x.next (row_at l)
+asked : (u : lts.After-number_of tie.the-claims reads.Pre reads.Post goal.the-invariant-loop-x goal.the-decreases-loop-x) →
+    let l = u.before.before.before.before.before.before in
+    u.number_of-number.result ≡ untaken l.loop-x.next (row_at l)
 asked u =
-    let l = u.before.before.before.before in
-    u.row_refusal-number.ensures ∙ ap (untaken l.loop-x.next) (lent u.before)
+    let l = u.before.before.before.before.before.before in
+    u.number_of-number.ensures ∙ u.untaken.ensures ∙ ap (untaken l.loop-x.next) (lent u.before.before.before)
 
 -- ---- the test
 
@@ -104,33 +104,33 @@ readyValues l k =
 
 -- the row as it is lent, tested as it is cut
 as_cut : (h : lts.After-holder_of tie.the-claims reads.Pre reads.Post goal.the-invariant-loop-x goal.the-decreases-loop-x) (k : ℕ) →
-    let j = h.before.before.before in
+    let j = h.before.before.before.before.before in
     let l = j.before.before.before in
     let s = (start l.before.before).args.bytes.now in
     let r = (start l.before.before).args.run in
     row_passes k r.setup r.dealings r.complaints r.challenges (take j.if-rest-length.size (take (length s - l.loop-x.from) (drop l.loop-x.from s))) ≡ readyPasses l k
 as_cut h k =
-    let j = h.before.before.before in
+    let j = h.before.before.before.before.before in
     let l = j.before.before.before in
     let r = (start l.before.before).args.run in
     ap (λ (t : List ℕ). row_passes k r.setup r.dealings r.complaints r.challenges t) (lent j)
 
-first_tested : (t : lts.After-test_row tie.the-claims reads.Pre reads.Post goal.the-invariant-loop-x goal.the-decreases-loop-x) → let l = t.before.before.before.before.before.before.before.before in
+first_tested : (t : lts.After-test_row tie.the-claims reads.Pre reads.Post goal.the-invariant-loop-x goal.the-decreases-loop-x) → let l = t.before.before.before.before.before.before.before.before.before.before in
     t.test_row.result ≡ readyPasses l l.loop-x.ready
 unfolding all_to
 first_tested t =
     let h = t.before.before in
-    let l = h.before.before.before.before.before.before in
+    let l = h.before.before.before.before.before.before.before.before in
     let r = (start l.before.before).args.run in
     t.test_row.ensures r.dealings r.complaints r.challenges refl l.loop-x.invariant.3 refl ∙ as_cut h l.loop-x.ready
 
 -- the values are ready for every u, or the row fails by those that are
-extended : (e : lts.Joined3 tie.the-claims reads.Pre reads.Post goal.the-invariant-loop-x goal.the-decreases-loop-x) → let l = e.before.before.before.before.before.before.before in
+extended : (e : lts.Joined3 tie.the-claims reads.Pre reads.Post goal.the-invariant-loop-x goal.the-decreases-loop-x) → let l = e.before.before.before.before.before.before.before.before.before in
     let r = (start l.before.before).args.run in
     (e.if-ready-b.ready ≤ r.b) × (e.if-ready-b.values ≡ readyValues l e.if-ready-b.ready) × ((e.if-ready-b.ready ≡ r.b) ⊎ (readyPasses l e.if-ready-b.ready ≡ false))
 extended e =
     let h = e.before in
-    let l = h.before.before.before.before.before.before in
+    let l = h.before.before.before.before.before.before.before.before in
     let known = l.loop-x.invariant in
     elim e.if-ready-b.branch [
       | then-ready-b+then-test_row w ↦
@@ -144,13 +144,13 @@ extended e =
           (omega (arith, w.ready-is, known.2), w.values-is ∙ known.3 ∙ ap (readyValues l) (sym w.ready-is), inl (omega (arith, w.if-ready-b.false, w.ready-is, known.2)))
     ]
 
-tested : (t : lts.After-test_row2 tie.the-claims reads.Pre reads.Post goal.the-invariant-loop-x goal.the-decreases-loop-x) → let l = t.before.before.before.before.before.before.before.before in
+tested : (t : lts.After-test_row2 tie.the-claims reads.Pre reads.Post goal.the-invariant-loop-x goal.the-decreases-loop-x) → let l = t.before.before.before.before.before.before.before.before.before.before in
     t.test_row-then-open.result ≡ passes_at l.loop-x.next (row_at l)
 unfolding all_to
 tested t =
     let e = t.before in
     let h = e.before in
-    let l = h.before.before.before.before.before.before in
+    let l = h.before.before.before.before.before.before.before.before in
     let r = (start l.before.before).args.run in
     let more = extended e in
     let ready = e.if-ready-b.ready in
@@ -163,20 +163,20 @@ tested t =
 
 -- where the three ways meet, number and run are those of the step
 answered_row : (k : lts.Joined2 tie.the-claims reads.Pre reads.Post goal.the-invariant-loop-x goal.the-decreases-loop-x) →
-    let l = k.before.before.before.before.before in
+    let l = k.before.before.before.before.before.before.before in
     let r = (start l.before.before).args.run in
     (step_of l.loop-x.next (row_at l) ≡ record { run = k.if-open.next; number = k.if-open.number })
     × Kept r k.if-open.next × (k.if-open.ready ≤ r.b) × (k.if-open.values ≡ readyValues l k.if-open.ready)
 answered_row k =
     let u = k.before in
-    let l = u.before.before.before.before in
+    let l = u.before.before.before.before.before.before in
     let r = l.loop-x.next in
     let kept = l.loop-x.invariant.1.kept in
     elim k.if-open.branch [
       | then-open+then-test_row-2 w ↦
           let e : lts.Joined3 tie.the-claims reads.Pre reads.Post goal.the-invariant-loop-x goal.the-decreases-loop-x = record { before = record { before = record { before = u; if-open = w.if-open }; holder_of-holder = w.holder_of-holder }; if-ready-b = w.if-ready-b } in
           let none = sym (asked u) ∙ w.if-open.true in
-          let next : k.if-open.next ≡ after_response r (row_at l) = w.next-is ∙ w.with_response-taken.ensures ∙ ap (after_response r) (lent u.before) in (
+          let next : k.if-open.next ≡ after_response r (row_at l) = w.next-is ∙ w.with_response-taken.ensures ∙ ap (after_response r) (lent u.before.before.before) in (
             row_taken r (row_at l) kept.late none (sym (tested (record { before = e; test_row-then-open = w.test_row-then-open })) ∙ w.if-test_row-2.true) ∙ reply (sym next) (sym (w.number-is ∙ w.if-open.true)),
             subst⁻¹ (Kept _) next (kept_response kept (row_at l)),
             omega (arith, w.ready-is, (extended e).0),
@@ -185,7 +185,7 @@ answered_row k =
       | then-open+else-test_row-2 w ↦
           let e : lts.Joined3 tie.the-claims reads.Pre reads.Post goal.the-invariant-loop-x goal.the-decreases-loop-x = record { before = record { before = record { before = u; if-open = w.if-open }; holder_of-holder = w.holder_of-holder }; if-ready-b = w.if-ready-b } in
           let none = sym (asked u) ∙ w.if-open.true in (
-            row_refused r (row_at l) kept.late none (sym (tested (record { before = e; test_row-then-open = w.test_row-then-open })) ∙ w.if-test_row-2.false) ∙ reply (sym w.next-is) (sym w.number-is),
+            row_refused r (row_at l) kept.late none (sym (tested (record { before = e; test_row-then-open = w.test_row-then-open })) ∙ w.if-test_row-2.false) ∙ reply (sym w.next-is) (sym (w.number-is ∙ w.number-number.ensures)),
             subst⁻¹ (Kept _) w.next-is kept,
             omega (arith, w.ready-is, (extended e).0),
             w.values-is ∙ (extended e).1 ∙ ap (readyValues l) (sym w.ready-is),
@@ -230,24 +230,21 @@ slice_bounds-row-end c =
     let s = (start l.before.before).args.bytes.now in
     rw (left_is s l.loop-x.from) (sym (length-take-le j.if-rest-length.size (drop l.loop-x.from s) (omega (arith, measured j))))
 
-pub row_refusal-number-requires : goal.row_refusal-number-requires
-row_refusal-number-requires c = c.loop-x.invariant.1.kept.late
-
 pub holder_of-holder-requires : goal.holder_of-holder-requires
-holder_of-holder-requires c = bounds_test (formed c.before.before.before.before.before.before.before.before).bounds
+holder_of-holder-requires c = bounds_test (formed c.before.before.before.before.before.before.before.before.before.before).bounds
 
 -- what the test asks
-testable : (h : lts.After-holder_of tie.the-claims reads.Pre reads.Post goal.the-invariant-loop-x goal.the-decreases-loop-x) {k : ℕ} → let n = h.before.before.before.before.before.before.before.before in
+testable : (h : lts.After-holder_of tie.the-claims reads.Pre reads.Post goal.the-invariant-loop-x goal.the-decreases-loop-x) {k : ℕ} → let n = h.before.before.before.before.before.before.before.before.before.before in
     let r = (start n).args.run in
     k ≤ r.b → (in_bounds r.setup.n r.setup.t r.setup.a ≡ true) × (k ≤ r.setup.n)
 testable h l =
-    let f = formed h.before.before.before.before.before.before.before.before in
+    let f = formed h.before.before.before.before.before.before.before.before.before.before in
     (bounds_test f.bounds, omega (arith, formed_batch f, l))
 
 pub test_row-requires : goal.test_row-requires
 test_row-requires c =
     let h = c.before in
-    let l = h.before.before.before.before.before.before.before in
+    let l = h.before.before.before.before.before.before.before.before.before in
     let asked = testable h.before l.loop-x.invariant.2 in
     (asked.0, omega arith, asked.1, h.holder_of-holder.ensures)
 
@@ -263,17 +260,17 @@ pub with_response-taken-requires : goal.with_response-taken-requires
 with_response-taken-requires c =
     let t = c.before.before.before.before in
     let u = t.before in
-    let l = u.before.before.before.before.before in
+    let l = u.before.before.before.before.before.before.before in
     (stage_live l.loop-x.next 4 (only_row l.loop-x.next _ l.loop-x.invariant.1.kept.late (sym (asked u.before) ∙ t.if-open.true)).0 (omega arith) (omega arith)).1
 
 pub bounds-numbers-x : goal.bounds-numbers-x
 bounds-numbers-x c =
-    let i = c.before.before.before.before.before in
+    let i = c.before.before.before.before.before.before.before in
     omega (arith, i.loop-x.invariant.1.places, i.loop-x-test.true)
 
 pub overflow_add-from : goal.overflow_add-from
 overflow_add-from c =
-    let j = c.before.before.before.before in
+    let j = c.before.before.before.before.before.before in
     let l = j.before.before.before in
     let start = start l.before.before in
     omega (arith, measured j, l.loop-x.invariant.1.within, length-drop l.loop-x.from start.args.bytes.now, start.well_formed.1.0.0)
@@ -281,7 +278,7 @@ overflow_add-from c =
 pub loop-x-preserved : goal.loop-x-preserved
 loop-x-preserved c =
     let k = c.before in
-    let j = k.before.before.before in
+    let j = k.before.before.before.before.before in
     let i = j.before.before in
     let l = i.before in
     let now = answered_row k.before in (

@@ -5,7 +5,7 @@ use mathlib.Core.List.{List}
 use Prim.Native.Nat.{ℕ, ◌+◌, ◌-◌, ◌/◌}
 use lib.ListN.{length}
 use Rattle.records.specs.Tags.{response_length}
-use Rattle.run.specs.declared.Reply.{Reply}
+use Rattle.run.specs.Steps.{Reply}
 use Rattle.run.specs.Runs.{stage_of}
 use Rattle.bundle.specs.Bundles.{outcome, rows_of}
 use Rattle.bundle.proofs.BundleLaws.{rows_count, bundle_stage, bundle_places, bundle_given}
@@ -36,7 +36,7 @@ pub returns-then-other : goal.returns-then-other
 returns-then-other c =
     let asked = c.before.before in
     let a = asked.args in
-    left_as c.answer.ensures a.numbers.now ∙ sym (bundle_stage a.run a.bytes.now a.numbers.now (λ e. c.if-other.true (asked.stage_of-other.ensures ∙ e)))
+    sym (bundle_stage a.run a.bytes.now a.numbers.now (λ e. c.if-other.true (asked.stage_of-other.ensures ∙ e)))
 
 pub overflow_sub-rows : goal.overflow_sub-rows
 unfolding response_length
@@ -54,9 +54,9 @@ nonzero_div-rows c = omega (arith, c.response_length-length.ensures)
 
 pub returns-then-count-rows : goal.returns-then-count-rows
 returns-then-count-rows c =
-    let m = c.before.before in
+    let m = c.before in
     let a = m.args in
-    left_as c.answer-then-count-rows.ensures a.numbers.now ∙ sym (bundle_places a.run a.bytes.now a.numbers.now (at_four m.before.before) (λ e. c.if-count-rows.true (e ∙ counted m.before)))
+    sym (bundle_places a.run a.bytes.now a.numbers.now (at_four m.before.before) (λ e. c.if-count-rows.true (e ∙ counted m.before)))
 
 -- one place a row
 placed : (c : lts.Else2 tie.the-claims reads.Pre reads.Post) →
@@ -72,10 +72,9 @@ shape_of-numbers c = c.give_rows.auto.numbers
 
 pub returns : goal.returns
 returns c =
-    let g = c.before.before.before in
+    let g = c.before.before in
     let e = g.before.before in
     let m = e.before in
     let a = m.args in
-    left_as c.answer-2.ensures g.give_rows.new.numbers
-    ∙ g.give_rows.ensures
+    g.give_rows.ensures
     ∙ sym (bundle_given a.run a.bytes.now a.numbers.now (at_four m.before.before) (placed e.before))

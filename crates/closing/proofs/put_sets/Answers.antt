@@ -59,5 +59,5 @@ returns c =
     let p3 = c.before.before in
     let p2 = p3.before.before.before.before.before in
     let p1 = p2.before.before.before.before.before in
-    rw (← p1.sets_of-fixed.ensures)
+    rw (← p1.shown_sets-sets.ensures)
     (wrote_append p1.put_set-hold.ensures (wrote_append p2.put_set-qual.ensures p3.put_set.ensures))

@@ -1,8 +1,8 @@
 -- `raised` meets its contract. The loop has stored the powers passed, those of 1 as they are. Assumes nothing.
 use mathlib.Core.Path.{◌≡◌}
 use mathlib.Core.List.{List}
-use Prim.Native.Nat.{ℕ, ◌+◌, ◌*◌, ◌-◌, ◌/◌, ◌≤◌, min}
-use lib.ListN.{length, get_or}
+use Prim.Native.Nat.{ℕ, ◌+◌, ◌*◌, ◌/◌, min}
+use lib.ListN.{get_or}
 use Rattle.lists.specs.Stores.{stored}
 use Rattle.field.specs.declared.Element.{Element}
 use Rattle.field.specs.Definitions.{identity, powered}
@@ -14,7 +14,4 @@ abbrev pub power_at : List Element → ℕ → Element
 power_at list at = powered (get_or list at identity) (at / stride + 1)
 
 abbrev pub invariant-loop-at : goal.invariant-loop-at
-invariant-loop-at l = (l.at ≤ l.count) × (l.count ≡ min (l.n * stride) places) × (length l.list ≡ places) × (l.next ≡ stored l.list 0 l.at (power_at l.list))
-
-abbrev pub decreases-loop-at : goal.decreases-loop-at
-decreases-loop-at l = l.count - l.at
+invariant-loop-at l = (l.count ≡ min (l.n * stride) places) × (l.next ≡ stored l.fn.list 0 l.at (power_at l.fn.list))

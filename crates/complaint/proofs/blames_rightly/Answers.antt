@@ -23,8 +23,8 @@ returns-then-not-may_blame c =
     let l = blamed.before.before.before in
     let a = l.args in
     let masked : blamed.has.result ≡ has a.mask (l.loop-i.i + 1) = blamed.has.ensures in
-    let may : c.may_blame.result ≡ may_blame a.dealings a.j (l.loop-i.i + 1) = c.may_blame.ensures in
-    let here : all_to (l.loop-i.i + 1) (rightly a.dealings a.j a.mask) ≡ false =
+    let may : c.may_blame.result ≡ may_blame a.dealings.now a.j (l.loop-i.i + 1) = c.may_blame.ensures in
+    let here : all_to (l.loop-i.i + 1) (rightly a.dealings.now a.j a.mask) ≡ false =
     all_next l.loop-i.i _
     ∙ rw (
       ← masked,

@@ -3,7 +3,6 @@ use mathlib.Core.Path.{◌≡◌, sym, ap₂, ◌∙◌}
 use mathlib.Core.List.{List, [], ◌∷◌}
 use Prim.Native.Nat.{ℕ, ◌+◌, ◌*◌}
 use native.Mathlib.Omega.{arith}
-use borrow.Author.Tests.{ne_eqb}
 use lib.ListN.{length, get_or, length-set, length-append}
 use lib.Seq.{sets}
 use Rattle.parameters.specs.Definitions.{quorum}
@@ -12,68 +11,57 @@ use Rattle.parameters.specs.ParameterLaws.{bounds_test}
 use Rattle.encoding.specs.Bytes.{fours, power_of_four}
 use Rattle.encoding.proofs.ByteLaws.{length_fours}
 use Rattle.encoding.proofs.StoreLaws.{sets_parts}
-use Rattle.dealer.specs.Dealt.{share_for, dealing_bytes}
+use Rattle.dealer.specs.Dealt.{dealing_refused, share_for, dealing_bytes}
 use Rattle.dealer.proofs.FitLaws.{DealingFits, dealing_fits}
 use Rattle.dealer.proofs.write_dealing.Goals as goal
-use Rattle.dealer.proofs.write_dealing.Lts as lts
-use Rattle.dealer.proofs.write_dealing.Reads as reads
-use Rattle.dealer.proofs.write_dealing.Tie as tie
 
 -- what is known where nothing is refused
-known : (c : lts.Else1 tie.the-claims reads.Pre reads.Post tie.handed_clauses) → let a = c.args in DealingFits a.n a.t a.a a.i a.values.now (length a.out.now)
-known c =
-    let a = c.args in
-    dealing_fits a.n a.t a.a a.i a.values.now (length a.out.now) (sym c.dealing_refused-number.ensures ∙ c.if-number-ne0.false)
+known : (n t a i : ℕ) (l : List ℕ) (size : ℕ) → 0 ≡ dealing_refused n t a i l size → DealingFits n t a i l size
+known n t a x l size e = dealing_fits _ _ _ _ _ _ (sym e)
 
-room : (c : lts.Else1 tie.the-claims reads.Pre reads.Post tie.handed_clauses) → let a = c.args in length a.out.now ≡ 4 + 4 * quorum a.t a.a + 4 * a.n
+room : (n t a i : ℕ) (l : List ℕ) (size : ℕ) → 0 ≡ dealing_refused n t a i l size → size ≡ 4 + 4 * quorum t a + 4 * n
 unfolding dealing_length
-room c = (known c).exact
-
-pub returns-then-number-ne0 : goal.returns-then-number-ne0
-returns-then-number-ne0 c = record { number = c.dealing_refused-number.ensures; bytes = rw (ne_eqb _ _ c.if-number-ne0.true) }
+room n t a x l size e = (known n t a x l size e).exact
 
 pub bounds-out-0 : goal.bounds-out-0
-bounds-out-0 c = omega (arith, room c.before)
+bounds-out-0 c = omega (arith, room _ _ _ _ _ _ c.in_ok-dealing_refused.ensures)
 
 pub bounds-out-1 : goal.bounds-out-1
-bounds-out-1 c = simp length-set (omega (arith, room c.before))
+bounds-out-1 c = simp length-set (omega (arith, room _ _ _ _ _ _ c.in_ok-dealing_refused.ensures))
 
 pub bounds-out-2 : goal.bounds-out-2
-bounds-out-2 c = simp length-set (omega (arith, room c.before))
+bounds-out-2 c = simp length-set (omega (arith, room _ _ _ _ _ _ c.in_ok-dealing_refused.ensures))
 
 pub bounds-out-3 : goal.bounds-out-3
-bounds-out-3 c = simp length-set (omega (arith, room c.before))
+bounds-out-3 c = simp length-set (omega (arith, room _ _ _ _ _ _ c.in_ok-dealing_refused.ensures))
 
 pub put_powers-requires : goal.put_powers-requires
-put_powers-requires c = simp length-set (omega (arith, room c.before.before, (known c.before.before).count))
+put_powers-requires c =
+    let passed = c.in_ok-dealing_refused.ensures in
+    simp length-set (omega (arith, room _ _ _ _ _ _ passed, (known _ _ _ _ _ _ passed).count))
 
 pub put_shares-requires : goal.put_shares-requires
 put_shares-requires c =
-    let p = c.before.before.before in
-    let e = p.before.before in
-    let same : length p.put_powers.new.out ≡ length e.args.out.now = p.put_powers.auto.out ∙ simp length-set in
-    (bounds_test (known e.before).bounds, (known e.before).count, omega (arith, room e.before, (known e.before).count))
+    let passed = c.in_ok-dealing_refused.ensures in
+    let same : length c.put_powers.new.out ≡ length c.args.out.now = c.put_powers.auto.out ∙ simp length-set in
+    (bounds_test (known _ _ _ _ _ _ passed).bounds, (known _ _ _ _ _ _ passed).count, omega (arith, room _ _ _ _ _ _ passed, (known _ _ _ _ _ _ passed).count))
 
 pub shape_of-out : goal.shape_of-out
-shape_of-out c =
-    let p = c.before.before in
-    p.put_shares.auto.out ∙ p.put_powers.auto.out ∙ simp length-set
+shape_of-out c = c.put_shares.auto.out ∙ c.put_powers.auto.out ∙ simp length-set
 
 pub returns : goal.returns
 unfolding dealing_bytes
 returns c =
-    let p = c.before.before in
-    let q = p.before.before.before.before in
-    let e = q.before.before in
-    let a = e.args in
+    let a = c.args in
+    let passed = c.in_ok-dealing_refused.ensures in
     let m = quorum a.t a.a in
     let committed : ℕ → ℕ = λ v. power_of_four (get_or a.values.now v 0) in
     let share : ℕ → ℕ = λ j. (share_for a.t a.a a.values.now (j + 1)).0 in
     let head : List ℕ = letter_d ∷ letter_e ∷ a.i ∷ 0 ∷ [] in
-    let after : 4 + 4 * length a.values.now ≡ length head + length (fours m committed) = omega (arith, (known e.before).count, length_fours m committed) in record {
-      number = sym e.if-number-ne0.false ∙ e.dealing_refused-number.ensures;
-      bytes = p.put_shares.ensures
-          ∙ ap₂ (λ (l : List ℕ) (at : ℕ). sets l at (fours a.n share)) (q.put_powers.ensures ∙ rw (known e.before).count) after
+    let after : 4 + 4 * length a.values.now ≡ length head + length (fours m committed) = omega (arith, (known _ _ _ _ _ _ passed).count, length_fours m committed) in record {
+      number = passed;
+      bytes = c.put_shares.ensures
+          ∙ ap₂ (λ (l : List ℕ) (at : ℕ). sets l at (fours a.n share)) (c.put_powers.ensures ∙ rw (known _ _ _ _ _ _ passed).count) after
           ∙ sets_parts a.out.now head (fours m committed) (fours a.n share)
-          (simp length-append (omega (arith, room e.before, length_fours m committed, length_fours a.n share)));
+          (simp length-append (omega (arith, room _ _ _ _ _ _ passed, length_fours m committed, length_fours a.n share)));
     }

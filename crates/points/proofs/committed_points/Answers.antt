@@ -1,36 +1,12 @@
--- `committed_points` meets its contract. The loop has stored the points passed. Assumes nothing.
-use native.Mathlib.Omega.{arith}
-use mathlib.Core.Path.{◌≡◌, sym, ◌∙◌}
-use Rattle.interpolation.specs.Definitions.{committed_point}
+-- `committed_points` meets its contract. Assumes nothing.
+use Rattle.std.proofs.Common.{rules, ◌≡◌, ◌∙◌, ◌+◌, sym}
+use Rattle.interpolation.specs.Definitions.{committed_point, point}
 use Rattle.interpolation.proofs.PointLaws.{committed_is}
-use Rattle.rows.proofs.RowLaws.{front_none, front_next, front_row}
 use Rattle.points.proofs.committed_points.Goals as goal
-use Rattle.points.proofs.committed_points.Goals.{then-count-lt-MOST_SCALARS, else-count-lt-MOST_SCALARS}
-
-pub loop-v-init : goal.loop-v-init
-loop-v-init c = (
-  omega arith,
-  elim c.if-count-lt-MOST_SCALARS.branch [
-    | then-count-lt-MOST_SCALARS w ↦
-        omega arith
-    | else-count-lt-MOST_SCALARS w ↦
-        omega arith
-  ],
-  front_none _,
-)
-
-pub loop-v-preserved : goal.loop-v-preserved
-loop-v-preserved c =
-    let a = c.before.before.before.before.args in
-    let l = c.before.before.loop-v in
-    let new : c.point.result ≡ committed_point a.a l.v = c.point.ensures ∙ sym (committed_is a.a l.v) in (
-      omega arith,
-      l.invariant.1,
-      rw (new, l.invariant.2) (sym (front_next l.v (committed_point a.a))),
-    )
 
 pub returns : goal.returns
 returns c =
-    let a = c.before.before.before.args in
-    let l = c.before.loop-v in
-    front_row a.count (committed_point a.a) l.invariant.2 (omega arith) l.invariant.1
+    c.listed.ensures (committed_point c.args.a)
+    (λ v l x e.
+    let given : x ≡ point (v + 1) c.args.a = search rules in
+    given ∙ sym (committed_is c.args.a v))

@@ -44,12 +44,12 @@ counted c =
 
 pub returns-then-single : goal.returns-then-single
 returns-then-single c =
-    let s = c.before.before in
+    let s = c.before in
     let a = (asked_by s.before).before.args in
     sym (rows_few a.run a.rest.now (four_is s.before) (omega (arith, counted s.before, c.if-single.true)))
 
 pub returns : goal.returns
 returns c =
-    let s = c.before.before in
+    let s = c.before in
     let a = (asked_by s.before).before.args in
     counted s.before ∙ sym (rows_many a.run a.rest.now (four_is s.before) (omega (arith, counted s.before, c.if-single.false)))

@@ -1,49 +1,26 @@
 -- `dealing_refusal` meets its contract: the code asks what the definition asks, in its order. Assumes nothing.
-use mathlib.Core.Path.{ap}
-use mathlib.Core.Bool.{not}
-use mathlib.Core.Path.{refl, sym}
-use Rattle.lists.specs.TestLaws.{Left, left, test_number}
-use Rattle.refusals.specs.Refusals.{dealing_refusal}
-use Rattle.lists.specs.CallLaws.{holds, fails, itself, Beyond, beyond}
+use Rattle.std.proofs.Common.{◌≡◌, true, false}
+use Rattle.lists.specs.Tests.{all_to, require, or_next}
+use Rattle.field.specs.Definitions.{is_scalar, is_element}
+use Rattle.parameters.specs.Definitions.{quorum}
+use Rattle.records.specs.Bytes.{word}
+use Rattle.records.specs.Tags.{dealing_length, shares_from}
+use Rattle.refusals.specs.Refusals.{head_refusal, dealing_refusal}
 use Rattle.refusals.proofs.dealing_refusal.Goals as goal
-use Rattle.refusals.proofs.dealing_refusal.Lts as lts
-use Rattle.refusals.proofs.dealing_refusal.Reads as reads
-use Rattle.refusals.proofs.dealing_refusal.Tie as tie
 
-pub returns-then-number-ne0 : goal.returns-then-number-ne0
-unfolding dealing_refusal
-returns-then-number-ne0 c =
-    let here = rw c.dealing_length.ensures at c.head_refusal-number.ensures in
-    itself here _ c.if-number-ne0.true
+pub returns-then-not-all_of : goal.returns-then-not-all_of
+unfolding dealing_refusal require or_next
+returns-then-not-all_of c =
+    let a = c.args in
+    let head : 0 ≡ head_refusal a.n (dealing_length a.n a.t a.a) a.s.now = rw c.dealing_length.ensures at c.in_ok-head_refusal.ensures in
+    let some : false ≡ all_to (quorum a.t a.a) (λ v. is_element (word a.s.now 4 v)) = rw c.quorum.ensures at c.if-not-all_of.ensures in
+    rw (← head, ← some)
 
--- what is left of the refusal past the head; the lemma below goes on from it
-head : (c : lts.Else1 tie.the-claims reads.Pre reads.Post) → unfold dealing_refusal in
-    (let a = c.args in Beyond {r = dealing_refusal a.n a.t a.a a.s.now} _ _ refl)
-unfolding dealing_refusal
-head c =
-    let here = rw c.dealing_length.ensures at c.head_refusal-number.ensures in
-    beyond here _ refl c.if-number-ne0.false
-
-pub returns-then-not-all_elements : goal.returns-then-not-all_elements
-unfolding dealing_refusal
-returns-then-not-all_elements c =
-    let here = rw c.quorum.ensures at c.all_elements.ensures in
-    test_number _ _ _ (head c.before.before.before.before) (fails here (ap not c.if-not-all_elements.true))
-
-elements : (c : lts.Else2 tie.the-claims reads.Pre reads.Post) → unfold dealing_refusal in (Left _ _ _ (head c.before.before.before))
-unfolding dealing_refusal
-elements c =
-    let here = rw c.quorum.ensures at c.all_elements.ensures in
-    left _ _ _ (head c.before.before.before) (holds here (ap not c.if-not-all_elements.false))
-
-pub returns-then-not-all_scalars : goal.returns-then-not-all_scalars
-unfolding dealing_refusal
-returns-then-not-all_scalars c =
-    let here = rw c.shares_from.ensures at c.all_scalars.ensures in
-    test_number _ _ _ (elements c.before.before.before.before) (fails here (ap not c.if-not-all_scalars.true))
-
-pub returns : goal.returns
-unfolding dealing_refusal
-returns c =
-    let here = rw c.shares_from.ensures at c.all_scalars.ensures in
-    sym (left _ _ _ (elements c.before.before.before.before) (holds here (ap not c.if-not-all_scalars.false)))
+pub returns-then-not-all_of-2 : goal.returns-then-not-all_of-2
+unfolding dealing_refusal require or_next
+returns-then-not-all_of-2 c =
+    let a = c.args in
+    let head : 0 ≡ head_refusal a.n (dealing_length a.n a.t a.a) a.s.now = rw c.dealing_length.ensures at c.in_ok-head_refusal.ensures in
+    let all : true ≡ all_to (quorum a.t a.a) (λ v. is_element (word a.s.now 4 v)) = rw c.quorum.ensures at c.if-not-all_of.ensures in
+    let some : false ≡ all_to a.n (λ j. is_scalar (word a.s.now (shares_from a.t a.a) j)) = rw c.shares_from.ensures at c.if-not-all_of-2.ensures in
+    rw (← head, ← all, ← some)

@@ -40,10 +40,10 @@ reserved c =
     let first = c.before.before in
     left _ _ _ (long first.before.before) (ap₂ ◌&&◌ (is first.byte.ensures first.if-byte-ne0.false) (is c.byte-2.ensures c.if-byte-ne0-2.false))
 
-pub returns-then-not-all_scalars : goal.returns-then-not-all_scalars
+pub returns-then-not-all_of : goal.returns-then-not-all_of
 unfolding scalars_refusal
-returns-then-not-all_scalars c = test_number _ _ _ (reserved c.before.before.before) (fails c.all_scalars.ensures (ap not c.if-not-all_scalars.true))
+returns-then-not-all_of c = test_number _ _ _ (reserved c.before.before.before) (fails c.all_of.ensures (ap not c.if-not-all_of.true))
 
 pub returns : goal.returns
 unfolding scalars_refusal
-returns c = sym (left _ _ _ (reserved c.before.before.before) (holds c.all_scalars.ensures (ap not c.if-not-all_scalars.false)))
+returns c = sym (left _ _ _ (reserved c.before.before.before) (holds c.all_of.ensures (ap not c.if-not-all_of.false)))

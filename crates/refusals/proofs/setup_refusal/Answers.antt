@@ -56,19 +56,19 @@ bounds c =
     let here = rw (c.byte-2.ensures, t, c.byte-3.ensures) at c.in_bounds.ensures in
     left _ _ _ (reserved first) (holds here (ap not c.if-not-in_bounds.false))
 
-pub returns-then-not-all_elements : goal.returns-then-not-all_elements
+pub returns-then-not-all_of : goal.returns-then-not-all_of
 unfolding setup_refusal
-returns-then-not-all_elements c =
+returns-then-not-all_of c =
     let t = c.byte-t.ensures in
-    let here = rw t at c.all_elements.ensures in
-    test_number _ _ _ (bounds c.before.before.before) (fails here (ap not c.if-not-all_elements.true))
+    let here = rw t at c.all_of.ensures in
+    test_number _ _ _ (bounds c.before.before.before) (fails here (ap not c.if-not-all_of.true))
 
 elements : (c : lts.Else5 tie.the-claims reads.Pre reads.Post) → unfold setup_refusal in (Left _ _ _ (bounds c.before.before))
 unfolding setup_refusal
 elements c =
     let t = c.byte-t.ensures in
-    let here = rw t at c.all_elements.ensures in
-    left _ _ _ (bounds c.before.before) (holds here (ap not c.if-not-all_elements.false))
+    let here = rw t at c.all_of.ensures in
+    left _ _ _ (bounds c.before.before) (holds here (ap not c.if-not-all_of.false))
 
 -- how S is read
 key : (c : lts.After-read tie.the-claims reads.Pre reads.Post) {r : Reading} → c.read-key.result ≡ r → read_element (word c.args.s.now 6 0) ≡ r

@@ -3,5 +3,5 @@ use Rattle.std.proofs.Common.{ℕ, sym}
 use Rattle.std.proofs.lemmas.List.{length-replicate}
 use Rattle.sprintlog.proofs.main.Goals as goal
 
-pub slice_bounds-report-end-2 : goal.slice_bounds-report-end-2
-slice_bounds-report-end-2 c = sym (length-replicate {0} {A = ℕ} 625000 0)
+pub slice_bounds-print_page-end-3 : goal.slice_bounds-print_page-end-3
+slice_bounds-print_page-end-3 c = sym (length-replicate {0} {A = ℕ} 625000 0)

@@ -1,13 +1,15 @@
 -- `read_on` meets its contract. The loop reads the log turn by turn; the measure is what is left of it. Assumes nothing.
 use mathlib.Core.Path.{◌≡◌, sym, ap, ap₂, ◌∙◌}
-use mathlib.Core.Logic.{◌≢◌}
 use Prim.Native.Nat.{◌+◌, ◌-◌, ◌≤◌, ◌<◌}
 use native.Mathlib.Omega.{arith}
 use lib.ListN.{length, take, drop, length-drop}
 use lib.Seq.{length-take-le}
-use Rattle.run.specs.declared.Reply.{Reply}
+use Rattle.run.specs.Steps.{Reply}
 use Rattle.run.specs.Steps.{step_of, untaken}
+use Rattle.refusals.specs.Numbers.{number_of}
+use Rattle.refusals.proofs.NumberLaws.{refused_number}
 use Rattle.run.specs.RefusalLaws.{untaken_refused}
+use Rattle.run.proofs.Numbers.{reply_run}
 use Rattle.reader.specs.Cutting.{length_of}
 use Rattle.reader.specs.Turns.{next_length, next_record}
 use Rattle.bundle.proofs.CutLaws.{left_is}
@@ -101,43 +103,43 @@ overflow_add-bytes c =
     )
 
 asked : (c : lts.After-untaken tie.the-claims reads.Pre reads.Post goal.the-invariant-loop-from goal.the-decreases-loop-from tie.handed_clauses) →
-    let l = c.before.before.before.before.before.before.before.before in
+    let l = c.before.before.before.before.before.before.before.before.before in
     let s = drop l.loop-from.from l.args.log.now in
-    c.untaken-taken.result ≡ untaken l.loop-from.run (next_record l.loop-from.run s)
+    number_of c.untaken.result ≡ untaken l.loop-from.run (next_record l.loop-from.run s)
 asked c =
-    let n = c.before.before.before in
-    c.untaken-taken.ensures ∙ ap (untaken n.loop-from.run) (record_is n)
+    let n = c.before.before.before.before in
+    c.untaken.ensures ∙ ap (untaken n.loop-from.run) (record_is n)
 
 -- where the two ways meet, the run is that of the step
 given : (c : lts.Joined2 tie.the-claims reads.Pre reads.Post goal.the-invariant-loop-from goal.the-decreases-loop-from tie.handed_clauses) →
-    let l = c.before.before.before.before.before.before.before.before.before in
+    let l = c.before.before.before.before.before.before.before.before.before.before.before.before in
     let s = drop l.loop-from.from l.args.log.now in
     c.if-taken.run ≡ (step_of l.loop-from.run (next_record l.loop-from.run s)).run
 given c =
-    let n = c.before.before.before.before in
+    let n = c.before.before.before.before.before.before.before in
     let l = n.before.before.before.before.before in
     let r = l.loop-from.run in
     let s = next_record r (drop l.loop-from.from l.args.log.now) in
     elim c.if-taken.branch [
       | then-taken w ↦
-          w.run-is ∙ ap (λ (y : Reply). y.run) (w.step-reply.ensures ∙ ap (step_of r) (record_is n))
+          w.run-is ∙ w.unwrap_or-run.ensures ∙ reply_run r w.step.result ∙ ap (λ (y : Reply). y.run) (w.step.ensures ∙ ap (step_of r) (record_is n))
       | else-taken w ↦
-          let refuses : c.untaken-taken.result ≢ 0 = w.if-taken.false in
-          w.run-is ∙ sym (ap (λ (y : Reply). y.run) (untaken_refused r s (λ e. refuses (asked c.before ∙ e))))
+          let refuses = refused_number c.untaken.result (sym c.is_ok-taken.ensures.value ∙ w.if-taken.false) in
+          w.run-is ∙ sym (ap (λ (y : Reply). y.run) (untaken_refused r s (λ e. refuses (asked c.before.before.before ∙ e))))
     ]
 
 pub overflow_add-from : goal.overflow_add-from
 overflow_add-from c =
-    let n = c.before.before.before.before.before in
+    let n = c.before.before.before.before.before.before.before.before in
     let l = n.before.before.before.before.before in
     omega (arith, (passed n).1, l.well_formed.0.0)
 
 pub loop-from-smaller : goal.loop-from-smaller
-loop-from-smaller c = omega (arith, passed c.before.before.before.before.before)
+loop-from-smaller c = omega (arith, passed c.before.before.before.before.before.before.before.before)
 
 pub loop-from-preserved : goal.loop-from-preserved
 loop-from-preserved c =
-    let k = c.before.before in
+    let k = c.before.before.before.before.before in
     let n = k.before.before.before in
     let e = n.before.before in
     let i = e.before.before in

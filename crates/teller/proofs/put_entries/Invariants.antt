@@ -2,5 +2,5 @@
 use Rattle.std.proofs.Common.{◌≡◌, ◌*◌, ◌≤◌, length}
 use Rattle.teller.proofs.put_entries.Given as goal
 
-abbrev pub invariant-loop-i : goal.invariant-loop-i
-invariant-loop-i l = (l.next ≤ 39 * l.i) × (length l.out ≡ length l.initial.out)
+abbrev pub invariant-loop-entry : goal.invariant-loop-entry
+invariant-loop-entry l = (l.next ≤ 39 * length l.yielded) × (length l.out ≡ length l.initial.out)

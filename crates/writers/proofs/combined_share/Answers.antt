@@ -4,7 +4,8 @@ use mathlib.Core.Bool.{Bool}
 use mathlib.Core.List.{List}
 use Prim.Native.Nat.{ℕ, ◌+◌}
 use native.Mathlib.Omega.{arith}
-use lib.ListN.{get_or}
+use lib.ListN.{take, get_or, length-take}
+use Rattle.std.proofs.Common.{get_or-take}
 use Rattle.algebra.specs.FoldLaws.{fold_zero, fold_next, fold_keeps}
 use Rattle.lists.specs.Tests.{pick}
 use Rattle.lists.specs.TestLaws.{pick_case}
@@ -37,25 +38,24 @@ module _ (qual : ℕ → Bool) (shares : List ℕ) (u : ℕ) where
       (λ k l. pick_case IsScalar (qual (k + 1)) _ _ (λ e. times_range _ _) (λ e. zero_range))
 
 pub loop-i-init : goal.loop-i-init
-loop-i-init c = (omega arith, none _ _ _)
+loop-i-init c = none _ _ _
 
 pub loop-i-preserved : goal.loop-i-preserved
 loop-i-preserved c =
     let l = c.loop-i in
     let a = c.args in
     let member : c.has.result ≡ has a.qual (l.i + 1) = c.has.ensures in
-    let more = next (has a.qual) a.shares.now a.u l.i in (
-      omega arith,
-      elim c.if-has.branch [
-        | then-has w ↦
-            w.sum-is ∙ w.add-sum.ensures ∙ rw (l.invariant.1, w.mul.ensures, w.coefficient.ensures) (sym (rw (sym member ∙ w.if-has.true) at more))
-        | else-has w ↦
-            w.sum-is ∙ l.invariant.1 ∙ sym ((rw (sym member ∙ w.if-has.false) at more) ∙ plus_zero _ (sum_range (has a.qual) a.shares.now a.u l.i))
-      ],
-    )
+    let share : get_or (take a.n a.shares.now) l.i 0 ≡ get_or a.shares.now l.i 0 = get_or-take a.n a.shares.now l.i 0 (omega (arith, length-take a.n a.shares.now)) in
+    let more = next (has a.qual) a.shares.now a.u l.i in
+    elim c.if-has.branch [
+      | then-has w ↦
+          w.sum-is ∙ w.add-sum.ensures ∙ rw (l.invariant, w.mul.ensures, w.coefficient.ensures, share) (sym (rw (sym member ∙ w.if-has.true) at more))
+      | else-has w ↦
+          w.sum-is ∙ l.invariant ∙ sym ((rw (sym member ∙ w.if-has.false) at more) ∙ plus_zero _ (sum_range (has a.qual) a.shares.now a.u l.i))
+    ]
 
 pub returns : goal.returns
 returns c =
     let l = c.loop-i in
-    let end : l.i ≡ c.args.n = omega arith in
-    rw end at l.invariant.1
+    let end : l.i ≡ c.args.n = omega (arith, c.requires, length-take c.args.n c.args.shares.now) in
+    rw end at l.invariant

@@ -1,10 +1,12 @@
 -- `wrong_dealers` meets its contract. The loop's mask is the set of the wrong dealers passed. Assumes nothing.
-use mathlib.Core.Path.{◌≡◌, refl, sym, ◌∙◌}
+use mathlib.Core.Path.{◌≡◌, refl, ap, sym, ◌∙◌}
 use mathlib.Core.Bool.{◌&&◌}
 use mathlib.Core.List.{List}
 use Prim.Native.Nat.{ℕ, ◌+◌, ◌-◌, ◌<◌}
 use native.Mathlib.Omega.{arith}
-use lib.ListN.{get_or}
+use borrow.Author.Rules.{rules}
+use lib.ListN.{length, take, get_or, length-take}
+use Rattle.std.proofs.Common.{get_or-take}
 use Rattle.lists.specs.Tests.{pick}
 use Rattle.sets.specs.Masks.{has, insert, mask_of}
 use Rattle.sets.proofs.MaskLaws.{mask_of_insert}
@@ -23,29 +25,33 @@ next dealers list j i l =
 
 pub loop-i-init : goal.loop-i-init
 unfolding mask_of
-loop-i-init c = (omega arith, refl)
+loop-i-init c = refl
 
 pub loop-i-preserved : goal.loop-i-preserved
 loop-i-preserved c =
     let l = c.loop-i in
     let a = c.args in
+    let list : List ℕ = a.run.dealings.wrong in
+    let within : l.i < a.run.setup.n = omega (arith, length-take a.run.setup.n list) in
     let dealt : c.has.result ≡ has a.run.dealings.dealers (l.i + 1) = c.has.ensures in
-    let more = next a.run.dealings.dealers a.run.dealings.wrong a.j l.i (omega arith) in (
-      omega arith,
-      elim c.if-has.branch [
-        | then-has+then-has-2 w ↦
-            let wrong : w.has-then-has.result ≡ has (get_or a.run.dealings.wrong l.i 0) a.j = w.has-then-has.ensures in
-            w.mask-is ∙ w.insert-mask.ensures ∙ rw l.invariant.1 (sym (rw (sym dealt ∙ w.if-has.true, sym wrong ∙ w.if-has-2.true) at more))
-        | then-has+else-has-2 w ↦
-            w.mask-is ∙ l.invariant.1 ∙ sym (rw (sym dealt ∙ w.if-has.true, sym w.has-then-has.ensures ∙ w.if-has-2.false) at more)
-        | else-has w ↦
-            w.mask-is ∙ l.invariant.1 ∙ sym (rw (sym dealt ∙ w.if-has.false) at more)
-      ],
-    )
+    let item : get_or (take a.run.setup.n list) l.i 0 ≡ get_or list l.i 0 = get_or-take a.run.setup.n list l.i 0 within in
+    let more = next a.run.dealings.dealers list a.j l.i (omega (arith, within, c.requires)) in
+    elim c.if-has.branch [
+      | then-has+then-has-2 w ↦
+          let wrong : w.has-then-has.result ≡ has (get_or list l.i 0) a.j = w.has-then-has.ensures ∙ ap (λ (x : ℕ). has x a.j) item in
+          w.mask-is ∙ w.insert-mask.ensures ∙ rw l.invariant (sym (rw (sym dealt ∙ w.if-has.true, sym wrong ∙ w.if-has-2.true) at more))
+      | then-has+else-has-2 w ↦
+          let wrong : w.has-then-has.result ≡ has (get_or list l.i 0) a.j = w.has-then-has.ensures ∙ ap (λ (x : ℕ). has x a.j) item in
+          w.mask-is ∙ l.invariant ∙ sym (rw (sym dealt ∙ w.if-has.true, sym wrong ∙ w.if-has-2.false) at more)
+      | else-has w ↦
+          w.mask-is ∙ l.invariant ∙ sym (rw (sym dealt ∙ w.if-has.false) at more)
+    ]
 
 pub returns : goal.returns
 unfolding may_blame
 returns c =
     let l = c.loop-i in
-    let end : l.i ≡ c.args.run.setup.n = omega arith in
-    rw end at l.invariant.1
+    let list : List ℕ = c.args.run.dealings.wrong in
+    let full : length list ≡ 64 = search rules in
+    let end : l.i ≡ c.args.run.setup.n = omega (arith, c.requires, full, length-take c.args.run.setup.n list) in
+    rw end at l.invariant

@@ -2,7 +2,7 @@
 use mathlib.Core.Path.{◌≡◌}
 use mathlib.Core.Bool.{Bool, ◌&&◌}
 use mathlib.Core.List.{List}
-use Prim.Native.Nat.{ℕ, ◌-◌, ◌≤◌}
+use Prim.Native.Nat.{ℕ, ◌-◌}
 use lib.ListN.{get_or}
 use Rattle.sets.specs.Masks.{has, mask_of}
 use Rattle.writers.proofs.wrong_dealers.Given as goal
@@ -12,7 +12,4 @@ abbrev pub wrong : ℕ → List ℕ → ℕ → ℕ → Bool
 wrong dealers list j i = has dealers i && has (get_or list (i - 1) 0) j
 
 abbrev pub invariant-loop-i : goal.invariant-loop-i
-invariant-loop-i l = (l.i ≤ l.n) × (l.mask ≡ mask_of l.i (wrong l.dealers l.list l.j))
-
-abbrev pub decreases-loop-i : goal.decreases-loop-i
-decreases-loop-i l = l.n - l.i
+invariant-loop-i l = l.mask ≡ mask_of l.i (wrong l.dealers l.fn.run.dealings.wrong l.j)

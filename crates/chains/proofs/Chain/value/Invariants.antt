@@ -1,11 +1,6 @@
--- `Chain::value` meets its contract. The loop keeps what the highest places come to. Assumes nothing.
-use mathlib.Core.Path.{◌≡◌}
-use Prim.Native.Nat.{◌-◌, ◌≤◌}
-use Rattle.chains.specs.Definitions.{most_digits, value_from}
+-- `Chain::value` meets its contract. The loop keeps what the places passed, the highest, come to. Assumes nothing.
+use Rattle.chains.proofs.ChainLaws.{Passed}
 use Rattle.chains.proofs.Chain.value.Given as goal
 
-abbrev pub invariant-loop-i : goal.invariant-loop-i
-invariant-loop-i l = (l.i ≤ most_digits) × (l.value ≡ value_from l.self.digits (most_digits - l.i) l.i)
-
-abbrev pub decreases-loop-i : goal.decreases-loop-i
-decreases-loop-i l = most_digits - l.i
+abbrev pub invariant-loop-digit : goal.invariant-loop-digit
+invariant-loop-digit l = Passed l.fn.self.digits l.digit-iterator.iter.rest.now l.value

@@ -18,19 +18,19 @@ pub returns-then-i-lt1 : goal.returns-then-i-lt1
 returns-then-i-lt1 c =
     let a = c.args in
     let none : a.i ≡ 0 = omega arith in
-    rw none (sym (blame_none a.self a.j))
+    rw none (sym (blame_none a.self.now a.j))
 
 pub returns-then-i-gt-MOST_PARTIES : goal.returns-then-i-gt-MOST_PARTIES
 returns-then-i-gt-MOST_PARTIES c =
     let a = c.args in
-    let long : length a.self.wrong ≡ most_parties = search rules in
-    sym (blame_past a.self a.j a.i (omega arith))
+    let long : length a.self.now.wrong ≡ most_parties = search rules in
+    sym (blame_past a.self.now a.j a.i (omega arith))
 
 pub returns-then-not-has : goal.returns-then-not-has
 unfolding may_blame
 returns-then-not-has c =
     let a = c.args in
-    let undealt : has a.self.dealers a.i ≡ false = fails c.has.ensures (ap not c.if-not-has.true) in
+    let undealt : has a.self.now.dealers a.i ≡ false = fails c.has.ensures (ap not c.if-not-has.true) in
     rw undealt
 
 pub returns : goal.returns

@@ -27,8 +27,8 @@ returns c =
     let at : place.predecessor-before.result ≡ sender s - 1 = place.predecessor-before.ensures ∙ ap (λ (i : ℕ). i - 1) party in
     let small = (bounds_of a.setup.n a.setup.t a.setup.a start.requires.0).n_max in
     let dealers = c.insert.ensures ∙ ap (insert a.self.dealers) party in
-    let commitments : loads.load_commitments-commitments.result ≡ stored a.self.commitments ((sender s - 1) * stride) (quorum a.setup.t a.setup.a) (λ v. element (word s 4 v)) =
-    loads.load_commitments-commitments.ensures ∙ rw (at, loads.quorum.ensures) in
+    let commitments : loads.with_numbers-commitments.result ≡ stored a.self.commitments ((sender s - 1) * stride) (quorum a.setup.t a.setup.a) (λ v. element (word s 4 v)) =
+    loads.with_numbers-commitments.ensures ∙ rw (at, loads.quorum.ensures) in
     let wrong : kept.if-at-lt-PARTIES.wrong ≡ set a.self.wrong (sender s - 1) (wrong_shares a.setup s) =
     elim kept.if-at-lt-PARTIES.branch [
       | then-at-lt-PARTIES w ↦

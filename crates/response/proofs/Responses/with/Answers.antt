@@ -8,4 +8,4 @@ unfolding with_response base
 returns c =
     let loaded = c.before.before in
     let place = loaded.before.before in
-    rw (c.insert.ensures, loaded.load_numbers-numbers.ensures, place.predecessor-before.ensures, place.byte-j.ensures)
+    rw (c.insert.ensures, loaded.with_numbers-numbers.ensures, place.predecessor-before.ensures, place.byte-j.ensures)

@@ -1,52 +1,48 @@
 -- `Row::product` meets its contract. The loop keeps a chain that comes to the product of value^weight over the places passed. Assumes nothing.
-use borrow.Author.Rules.{rules}
-use native.Mathlib.Omega.{arith}
-use mathlib.Core.Path.{◌≡◌, sym, ap, ◌∙◌}
-use mathlib.Core.List.{List}
-use Prim.Native.Nat.{ℕ, ◌≤◌}
-use lib.ListN.{length, get_or}
+use Rattle.std.proofs.Common.{◌≡◌, ◌∙◌, sym, ap, ap₂, rules, arith, List, ℕ, ◌<◌, [], ◌∷◌, length, take, get_or, length-append, length-take, get_or-take}
+use Rattle.std.proofs.lemmas.Slice.Zip.{zip_turn, zip_end}
+use Rattle.std.specs.Slice.Iter.{iter_rest}
+use Rattle.std.specs.Iterator.Adapters.{zip_first, zip_second}
+use Rattle.field.specs.declared.Scalar.{Scalar}
 use Rattle.field.specs.declared.Element.{Element}
 use Rattle.field.specs.Definitions.{scalar, element, raise, product as multiply}
-use Rattle.rows.specs.declared.Row.{Row}
-use Rattle.rows.specs.Definitions.{most_scalars, size, product_of}
+use Rattle.rows.specs.Definitions.{size, product_of}
 use Rattle.rows.proofs.RowLaws.{size_max}
 use Rattle.rows.proofs.TurnLaws.{first, product_none, product_next, product_all}
 use Rattle.rows.proofs.Row.product.Goals as goal
 
-pub loop-i-init : goal.loop-i-init
-loop-i-init c =
-    let a = c.before.before.args in
-    (omega arith, c.before.len-m.ensures, c.none-chain.ensures ∙ sym (product_none a.self a.values))
+pub loop-w-init : goal.loop-w-init
+loop-w-init c = c.none-chain.ensures ∙ sym (product_none c.args.self c.args.values)
 
-pub bounds-self-i : goal.bounds-self-i
-unfolding size
-bounds-self-i c = search rules
-
-pub bounds-values-i : goal.bounds-values-i
-unfolding size
-bounds-values-i c = search rules
-
-pub loop-i-preserved : goal.loop-i-preserved
-loop-i-preserved c =
-    let t = c.before.before.before.before in
-    let s = t.before.before.before in
-    let l = t.loop-i in
-    let weights : Row = s.args.self in
-    let values : List Element = s.args.values in
-    let full : length values ≡ most_scalars = search rules in
-    let most : size weights ≤ most_scalars = size_max weights in
-    let power : Element = raise (get_or values l.i (element 0)) (get_or weights.at l.i (scalar 0)) in (
-      omega arith,
-      l.invariant.1,
-      c.with-chain.ensures
-          ∙ ap (λ (p : Element). multiply p power) l.invariant.2
-          ∙ sym (product_next weights values l.i (element 0) (omega arith) (omega arith)),
-    )
+pub loop-w-preserved : goal.loop-w-preserved
+loop-w-preserved c =
+    let m : ℕ = c.len-m.result in
+    let at : List Scalar = c.args.self.at in
+    let values : List Element = c.args.values in
+    let k : ℕ = length c.loop-w.yielded in
+    let start : iter_rest (zip_first c.into_iter-w-iterator.result) ≡ take m at = search rules in
+    let second : iter_rest (zip_second c.into_iter-w-iterator.result) ≡ values = search rules in
+    let turn =
+    zip_turn (take m at) values c.loop-w.yielded c.into_iter-w-iterator.result c.loop-w.w-iterator c.next.new.self c.next.result start second c.loop-w.yielded_by
+    (c.in-Some.field-0-0, c.in-Some.field-0-1) c.in-Some.is c.next.ensures.steps in
+    let within : k < m = omega (arith, turn.0, length-take m at) in
+    let weight : c.in-Some.field-0-0.now ≡ get_or at k (scalar 0) = turn.2 (scalar 0) ∙ get_or-take m at k (scalar 0) within in
+    c.with-chain.ensures
+    ∙ ap₂ multiply c.loop-w.invariant (ap₂ raise (turn.3 (element 0)) weight)
+    ∙ sym (product_next c.args.self values k (element 0) (omega (arith, within, size_max c.args.self)) turn.1)
+    ∙ ap (λ (n : ℕ). product_of (first n c.args.self) values) (sym (length-append c.loop-w.yielded ((c.in-Some.field-0-0, c.in-Some.field-0-1) ∷ [])))
 
 pub returns : goal.returns
 returns c =
-    let t = c.before.before in
-    let l = t.loop-i in
-    let a = t.before.before.before.args in
-    let end : l.i ≡ size a.self = omega arith in
-    c.value.ensures ∙ l.invariant.2 ∙ ap (λ (k : ℕ). product_of (first k a.self) a.values) end ∙ product_all a.self a.values
+    let m : ℕ = c.len-m.result in
+    let at : List Scalar = c.args.self.at in
+    let values : List Element = c.args.values in
+    let full : length at ≡ 64 = search rules in
+    let as_long : length values ≡ 64 = search rules in
+    let start : iter_rest (zip_first c.into_iter-w-iterator.result) ≡ take m at = search rules in
+    let second : iter_rest (zip_second c.into_iter-w-iterator.result) ≡ values = search rules in
+    let last =
+    zip_end (take m at) values c.loop-w.yielded c.into_iter-w-iterator.result c.loop-w.w-iterator c.next.new.self c.next.result start second c.loop-w.yielded_by c.in-None.is
+    c.next.ensures.steps in
+    let end : length c.loop-w.yielded ≡ size c.args.self = omega (arith, last, length-take m at, size_max c.args.self) in
+    c.value.ensures ∙ c.loop-w.invariant ∙ ap (λ (n : ℕ). product_of (first n c.args.self) values) end ∙ product_all c.args.self values

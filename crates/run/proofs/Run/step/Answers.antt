@@ -1,8 +1,8 @@
 -- `Run::step` meets its contract: each arm is one handler. Assumes nothing.
-use mathlib.Core.Path.{◌≡◌, sym, ◌∙◌}
+use mathlib.Core.Path.{◌≡◌, refl, sym, ◌∙◌}
 use mathlib.Core.Bool.{true}
 use Rattle.stages.specs.declared.Handler.{Handler}
-use Rattle.run.specs.declared.Reply.{Reply}
+use Rattle.run.specs.Steps.{Reply}
 use Rattle.run.specs.Runs.{well_formed}
 use Rattle.run.specs.Steps.{handled, step_of}
 use Rattle.run.proofs.Stages.{Past, step_by, formed_by}
@@ -64,4 +64,4 @@ returns-in-TakeResponse c = reply c.before.before.before c.in-TakeResponse.is c.
 
 pub returns-in-Refuse : goal.returns-in-Refuse
 unfolding handled
-returns-in-Refuse c = reply c.before.before.before c.in-Refuse.is c.answer.ensures
+returns-in-Refuse c = reply c.before.before c.in-Refuse.is refl

@@ -1,11 +1,7 @@
 -- `Run::untaken` meets its contract: for each handler the refusals but 15. Assumes nothing.
 use mathlib.Core.Path.{◌≡◌, sym, ap, ◌∙◌}
-use native.Mathlib.Omega.{arith}
-use Rattle.dealing.specs.Definitions.{dealing_number}
-use Rattle.complaint.specs.Definitions.{complaint_number}
 use Rattle.stages.specs.declared.Handler.{Handler}
 use Rattle.run.specs.Steps.{untaken_by, untaken}
-use Rattle.run.specs.RefusalLaws.{asked_last}
 use Rattle.run.proofs.Stages.{untaken_by_is}
 use Rattle.run.proofs.Run.untaken.Goals as goal
 use Rattle.run.proofs.Run.untaken.Lts as lts
@@ -15,11 +11,11 @@ use Rattle.run.proofs.Run.untaken.Tie as tie
 -- the answer for a handler, from what the calls answer
 answer : (c : lts.After-taken_by tie.the-claims reads.Pre reads.Post) {h : Handler} → c.taken_by-handler.result ≡ h →
     let a = c.args in
-    untaken_by h a.self a.bytes.now ≡ untaken a.self a.bytes.now
+    untaken_by h a.self.now a.bytes.now ≡ untaken a.self.now a.bytes.now
 answer c e =
     let a = c.args in
-    ap (λ (h : Handler). untaken_by h a.self a.bytes.now) (sym e)
-    ∙ untaken_by_is a.self a.bytes.now c.taken_by-handler.ensures c.tag.ensures c.stage_of.ensures
+    ap (λ (h : Handler). untaken_by h a.self.now a.bytes.now) (sym e)
+    ∙ untaken_by_is a.self.now a.bytes.now c.taken_by-handler.ensures c.tag.ensures c.stage_of.ensures
 
 pub returns-in-TakeSetup : goal.returns-in-TakeSetup
 unfolding untaken_by
@@ -30,29 +26,16 @@ unfolding untaken_by
 returns-in-TakeWaiting c = c.setup_refusal-in-TakeWaiting.ensures ∙ answer c.before.before.before c.in-TakeWaiting.is
 
 pub returns-in-TakeDealing : goal.returns-in-TakeDealing
-unfolding untaken_by dealing_number
-returns-in-TakeDealing c =
-    let refusal = c.before.before in
-    let told = refusal.before in
-    let taken = told.before.before in
-    c.or_next.ensures
-    ∙ rw (refusal.dealing_refusal-number.ensures, c.has.ensures, taken.byte-j.ensures) (answer taken told.in-TakeDealing.is)
+unfolding untaken_by
+returns-in-TakeDealing c = c.refusal.ensures ∙ answer c.before.before.before.before c.in-TakeDealing.is
 
 pub returns-in-TakeGo : goal.returns-in-TakeGo
 unfolding untaken_by
-returns-in-TakeGo c = c.go_number.ensures ∙ answer c.before.before.before c.in-TakeGo.is
+returns-in-TakeGo c = c.go_refusal.ensures ∙ answer c.before.before.before c.in-TakeGo.is
 
 pub returns-in-TakeComplaint : goal.returns-in-TakeComplaint
-unfolding untaken_by complaint_number
-returns-in-TakeComplaint c =
-    let mask = c.before.before in
-    let sent = mask.before.before in
-    let refusal = sent.before.before in
-    let told = refusal.before in
-    let taken = told.before.before in
-    c.or_next-in-TakeComplaint.ensures
-    ∙ rw (sent.or_next-sent.ensures, refusal.complaint_refusal-number.ensures, sent.has-in-TakeComplaint.ensures, c.blames_rightly.ensures, mask.mask-mask.ensures, taken.byte-j.ensures)
-    (asked_last _ _ 12 _ (omega arith) ∙ answer taken told.in-TakeComplaint.is)
+unfolding untaken_by
+returns-in-TakeComplaint c = c.refusal-in-TakeComplaint.ensures ∙ answer c.before.before.before.before c.in-TakeComplaint.is
 
 pub returns-in-TakeChallenges : goal.returns-in-TakeChallenges
 unfolding untaken_by

@@ -13,7 +13,7 @@ use Rattle.run.proofs.Run.well_formed.Goals as goal
 pub returns-then-self-gt6 : goal.returns-then-self-gt6
 unfolding well_formed
 returns-then-self-gt6 c =
-    let high : leb c.args.self.stage 6 ≡ false = lt-leb _ _ c.if-self-gt6.true in
+    let high : leb c.args.self.now.stage 6 ≡ false = lt-leb _ _ c.if-self-gt6.true in
     rw high
 
 pub returns-then-not-in_bounds : goal.returns-then-not-in_bounds
@@ -23,40 +23,29 @@ returns-then-not-in_bounds c = rw (le-leb _ _ c.if-self-gt6.false, ← c.in_boun
 pub returns-then-n-self : goal.returns-then-n-self
 unfolding well_formed
 returns-then-n-self c =
-    let bounds = c.before.before in
-    rw (le-leb _ _ bounds.if-self-gt6.false, ← bounds.in_bounds.ensures, not-false bounds.in_bounds.result (ap not bounds.if-not-in_bounds.false), lt-leb _ _ c.if-n-self.true)
+    rw (le-leb _ _ c.if-self-gt6.false, ← c.in_bounds.ensures, not-false c.in_bounds.result (ap not c.if-not-in_bounds.false), lt-leb _ _ c.if-n-self.true)
 
 pub returns-then-n-self-2 : goal.returns-then-n-self-2
 unfolding well_formed
 returns-then-n-self-2 c =
-    let dealings = c.before.before in
-    let bounds = dealings.before.before in
-    let r = bounds.args.self in
+    let r = c.args.self.now in
     let above : leb r.complaints.count r.setup.n ≡ false = lt-leb _ _ c.if-n-self-2.true in
-    rw (le-leb _ _ bounds.if-self-gt6.false, ← bounds.in_bounds.ensures, not-false bounds.in_bounds.result (ap not bounds.if-not-in_bounds.false), le-leb _ _ dealings.if-n-self.false, above)
+    rw (le-leb _ _ c.if-self-gt6.false, ← c.in_bounds.ensures, not-false c.in_bounds.result (ap not c.if-not-in_bounds.false), le-leb _ _ c.if-n-self.false, above)
 
 pub returns-then-n-self-3 : goal.returns-then-n-self-3
 unfolding well_formed
 returns-then-n-self-3 c =
-    let complaints = c.before.before in
-    let dealings = complaints.before.before in
-    let bounds = dealings.before.before in
-    let r = bounds.args.self in
+    let r = c.args.self.now in
     let above : leb r.responses.count r.setup.n ≡ false = lt-leb _ _ c.if-n-self-3.true in
-    rw (le-leb _ _ bounds.if-self-gt6.false, ← bounds.in_bounds.ensures, not-false bounds.in_bounds.result (ap not bounds.if-not-in_bounds.false), le-leb _ _ dealings.if-n-self.false, le-leb _ _ complaints.if-n-self-2.false, above)
+    rw (le-leb _ _ c.if-self-gt6.false, ← c.in_bounds.ensures, not-false c.in_bounds.result (ap not c.if-not-in_bounds.false), le-leb _ _ c.if-n-self.false, le-leb _ _ c.if-n-self-2.false, above)
 
 -- t is at most n
 pub batch_fits-requires : goal.batch_fits-requires
 batch_fits-requires c =
-    let bounds = c.before.before.before.before.before.before in
-    omega (arith, (bounds_of _ _ _ (sym bounds.in_bounds.ensures ∙ not-false bounds.in_bounds.result (ap not bounds.if-not-in_bounds.false))).enough)
+    omega (arith, (bounds_of _ _ _ (sym c.in_bounds.ensures ∙ not-false c.in_bounds.result (ap not c.if-not-in_bounds.false))).enough)
 
 pub returns : goal.returns
 unfolding well_formed
 returns c =
-    let responses = c.before in
-    let complaints = responses.before.before in
-    let dealings = complaints.before.before in
-    let bounds = dealings.before.before in
     c.batch_fits.ensures
-    ∙ rw (le-leb _ _ bounds.if-self-gt6.false, ← bounds.in_bounds.ensures, not-false bounds.in_bounds.result (ap not bounds.if-not-in_bounds.false), le-leb _ _ dealings.if-n-self.false, le-leb _ _ complaints.if-n-self-2.false, le-leb _ _ responses.if-n-self-3.false)
+    ∙ rw (le-leb _ _ c.if-self-gt6.false, ← c.in_bounds.ensures, not-false c.in_bounds.result (ap not c.if-not-in_bounds.false), le-leb _ _ c.if-n-self.false, le-leb _ _ c.if-n-self-2.false, le-leb _ _ c.if-n-self-3.false)
