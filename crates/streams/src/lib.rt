@@ -86,6 +86,8 @@ pub fn split_part(s: &[u8]) -> Option<(&[u8], &[u8])>
 
 // A log that stands behind its length, and what follows it; none where it is cut or too long.
 pub fn split_log(s: &[u8]) -> Option<(&[u8], &[u8])>
+    ensures whole { IsSome result ↔ (4 + number_at s.now 0 ≤ length s.now) × (number_at s.now 0 ≤ 65536) }
+    ensures size { IfSome result (λ p. length p.0.now ≡ number_at s.now 0) }
     ensures parts { IfSome result (λ p. s.now ≡ take 4 s.now ++ (p.0.now ++ p.1.now)) }
     ensures log { IfSome result (λ p. length p.0.now ≤ 65536) }
 {
