@@ -23,29 +23,30 @@ const EMPTY: Sets = Sets {
 };
 
 // The accepted dealers that no accepted complaint row blames, at any stage; from stage 3 on they are QUAL.
+#[tactic(auto, unfolding(crate::specs::Answers::unblamed_of))]
 pub fn unblamed(run: Run) -> u64
     ensures { result ≡ unblamed_of run }
 {
-    let complaints = run.complaints;
-    complaints.unblamed(run.setup.n, run.dealings.dealers)
+    run.complaints.unblamed(run.setup.n, run.dealings.dealers)
 }
 
 // HOLD, QUAL and BAD, once they are fixed: from stage 3 on.
+#[tactic(auto, unfolding(crate::specs::Answers::sets_of, crate::specs::Answers::kept_sets, crate::specs::Answers::bad_of))]
 pub fn sets_of(run: Run) -> Option<Sets>
     ensures { result ≡ sets_of run }
 {
     if run.stage_of() < 3 {
         return None;
     }
-    let complaints = run.complaints;
     Some(Sets {
         hold: run.complaints.holders,
         qual: unblamed(run),
-        bad: complaints.blamed(run.setup.n),
+        bad: run.complaints.blamed(run.setup.n),
     })
 }
 
 // HOLD, QUAL and BAD as they are shown: empty before they are fixed.
+#[tactic(auto, unfolding(crate::specs::Answers::shown_sets, crate::specs::Answers::no_sets))]
 pub fn shown_sets(run: Run) -> Sets
     ensures { result ≡ shown_sets run }
 {
@@ -53,6 +54,7 @@ pub fn shown_sets(run: Run) -> Sets
 }
 
 // Whether u is from 1 to b and k from 1 to a.
+#[tactic(auto, using(crate::proofs::RangeLaws::ranged), unfolding(crate::specs::Answers::in_batch))]
 fn in_batch(run: Run, u: u8, k: u8) -> bool
     ensures { result ≡ in_batch run u k }
 {
@@ -60,6 +62,7 @@ fn in_batch(run: Run, u: u8, k: u8) -> bool
 }
 
 // R(u,k) × 4^δ, at stages 3, 4 and 5.
+#[tactic(auto, using(crate::proofs::RangeLaws::ranged), unfolding(crate::specs::Answers::nonce_of))]
 pub fn nonce_at(run: Run, u: u8, k: u8) -> Option<Element>
     ensures { result ≡ nonce_of run u k }
 {
@@ -67,16 +70,14 @@ pub fn nonce_at(run: Run, u: u8, k: u8) -> Option<Element>
     if !(3..=5).contains(&stage) || !in_batch(run, u, k) {
         return None;
     }
-    let setup = run.setup;
-    let dealings = run.dealings;
-    let complaints = run.complaints;
     let x = points::point(1, k);
-    let nonce = verification::combined_at(setup, dealings, complaints, u, x);
+    let nonce = run.kept().combined_at(u, x);
     let shift = run.challenges.shift;
     Some(nonce.mul(Element::GENERATOR.pow(shift)))
 }
 
 // φ(u,k) + δ, at stage 5.
+#[tactic(auto, unfolding(crate::specs::Answers::phi_answer, run::specs::Runs::kept, arrays::specs::Arrays::cell))]
 pub fn signature_at(run: Run, u: u8, k: u8) -> Option<Scalar>
     ensures { result ≡ phi_answer run u k }
 {
@@ -85,6 +86,5 @@ pub fn signature_at(run: Run, u: u8, k: u8) -> Option<Scalar>
         return None;
     }
     let at = (u - 1) as usize * run.setup.a as usize + (k - 1) as usize;
-    let list = run.signatures;
-    Some(list[at])
+    Some(run.signatures[at])
 }

@@ -1,11 +1,13 @@
 // The public values of a committee on flat arrays: the key, the challenges, the values of a set of parties, and the test of a share.
 #![tactic(auto)]
 
-ghost use Rattle.std.specs.Prelude.{◌≡◌, ℕ, ◌+◌, ◌-◌, min, get_or};
+ghost use Rattle.std.specs.Prelude.{◌≡◌, ℕ, ◌+◌, ◌-◌, ◌<◌, min, get_or};
 ghost use Rattle.lists.specs.Stores.{stored};
+ghost use Rattle.sets.specs.Masks.{has, members, count};
+ghost use Rattle.field.specs.declared.Scalar.{Scalar};
 ghost use Rattle.field.specs.Definitions.{scalar, element, identity, generator, same_element, raise};
 ghost use Rattle.records.specs.Bytes.{word};
-ghost use Rattle.rows.specs.Definitions.{most_scalars, product_of};
+ghost use Rattle.rows.specs.Definitions.{most_scalars, listed, product_of};
 ghost use Rattle.arrays.specs.Arrays.{challenge_in, member_points, member_numbers, elements, scalars};
 
 use field::{Element, Scalar};
@@ -16,22 +18,21 @@ use rows::{ROW, Row};
 pub fn predecessor(u: u8) -> u8
     ensures { result ≡ u - 1 }
 {
-    if 0 < u { u - 1 } else { 0 }
+    u.saturating_sub(1)
 }
 
 // How many of `count` values a row takes.
 pub fn capped(count: usize) -> usize
     ensures { result ≡ min count most_scalars }
 {
-    if count < ROW { count } else { ROW }
+    count.min(ROW)
 }
 
 // What a list has at a place, and `other` past its end.
 pub fn item_or<T: Copy>(list: &[T], at: usize, other: T) -> T
     ensures { result ≡ get_or list.now at other }
 {
-    let within = at < list.len();
-    if within { list[at] } else { other }
+    list.get(at).copied().unwrap_or(other)
 }
 
 // What a record's numbers are read as: scalars or elements.
@@ -70,6 +71,7 @@ pub fn with_numbers<T: Kind, const N: usize>(
     ensures { result ≡ stored list base count (λ v. T.of_number (word bytes.now from v)) }
 {
     let mut next = list;
+    // by number: places of the record and of the list are counted at once, and none past the list's end is stored
     for v in 0..count {
         let at = base as usize + v as usize;
         let kept = at < N;
@@ -97,7 +99,7 @@ pub fn key_values(key: [Element; PARTIES], t: u8, a: u8) -> [Element; ROW]
     let m = capped(t as usize + packed);
     let mut values = [Element::ONE; ROW];
     for (v, value) in values[..m].iter_mut().enumerate() {
-        let j = if v < packed { 0 } else { v + 1 - packed };
+        let j = (v + 1).saturating_sub(packed);
         *value = item_or(&key, j, Element::ONE);
     }
     values
@@ -117,22 +119,28 @@ pub fn challenge_values(list: [Scalar; CELLS], a: u8, u: u8) -> [Scalar; ROW]
     values
 }
 
-// The points of the members of a set.
-pub fn member_points(n: u8, set: u64) -> Row
-    ensures { result ≡ member_points n set }
+// What a rule gives for each member of a set, members rising.
+fn of_members<F: Fn(u8) -> Scalar>(n: u8, set: u64, rule: F) -> Row
+    requires { F.IsAlwaysCallable rule }
+    ensures { (f : ℕ → Scalar) → ((j : ℕ) → j < 256 → (x : Scalar) → F.post rule j x → x ≡ f j) → result ≡ listed (count n (has set)) (λ i. f (get_or (members n (has set)) i 0)) }
 {
     let mut at = [Scalar::ZERO; ROW];
     let mut count: u8 = 0;
     for i in 0..n {
-        if sets::has(set, i + 1) {
-            at[count as usize] = points::point(i + 1, 0);
+        let j = i + 1;
+        if sets::has(set, j) {
+            at[count as usize] = rule(j);
             count += 1;
         }
     }
-    Row {
-        at: at,
-        count: count,
-    }
+    Row { at, count }
+}
+
+// The points of the members of a set.
+pub fn member_points(n: u8, set: u64) -> Row
+    ensures { result ≡ member_points n set }
+{
+    of_members(n, set, |j| points::point(j, 0))
 }
 
 // Their numbers for u.
@@ -140,14 +148,9 @@ pub fn member_numbers(n: u8, set: u64, numbers: [Scalar; PLACES], u: u8) -> [Sca
     ensures { result ≡ member_numbers n set numbers u }
 {
     let before = predecessor(u) as usize;
-    let mut values = [Scalar::ZERO; ROW];
-    let mut count: usize = 0;
-    for i in 0..n {
-        if sets::has(set, i + 1) {
-            let at = i as usize * STRIDE + before;
-            values[count] = item_or(&numbers, at, Scalar::ZERO);
-            count += 1;
-        }
-    }
-    values
+    let row = of_members(n, set, |j| {
+        let at = predecessor(j) as usize * STRIDE + before;
+        item_or(&numbers, at, Scalar::ZERO)
+    });
+    row.at
 }

@@ -15,7 +15,7 @@ use Rattle.stages.specs.Definitions.{taken_at, at_stage, handler_at}
 use Rattle.verification.specs.Definitions.{row_passes}
 use Rattle.response.proofs.ResponseLaws.{left_tested}
 use Rattle.run.specs.declared.Run.{Run}
-use Rattle.run.specs.Runs.{stage_of}
+use Rattle.run.specs.Runs.{well_formed, stage_of}
 use Rattle.run.specs.RunLaws.{formed_of, fits_gone, stage_least, stage_live}
 use Rattle.run.specs.Steps.{with_row, finished, after_response, refused, answered, handled, step_of, untaken_by, untaken}
 use Rattle.run.specs.StepLaws.{off_stage, at_stage_is}
@@ -32,7 +32,11 @@ row_code CS f = absurd (omega (arith, f))
 row_code RE f = refl
 row_code unknown f = absurd (omega (arith, f))
 
--- a run at stage 4 has signatures
+-- a run at stage 4 is well formed
+pub formed_four : (r : Run) → stage_of r ≡ 4 → well_formed r ≡ true
+formed_four r e = (stage_live r 4 e (omega arith) (omega arith)).1
+
+-- and has signatures
 pub stage_batch : (r : Run) → stage_of r ≡ 4 → 0 < r.b
 stage_batch r e =
     let live = stage_live r 4 e (omega arith) (omega arith) in
@@ -89,8 +93,8 @@ abbrev pub passes_at : Run → List ℕ → Bool
 passes_at r s = row_passes r.b r.setup r.dealings r.complaints r.challenges s
 
 -- after the rows before it a row is tested against what it was
-pub same_test : {r next : Run} → Kept r next → (s : List ℕ) → row_passes next.b r.setup r.dealings r.complaints r.challenges s ≡ passes_at next s
-same_test k s = rw (k.setup_same, k.dealings_same, k.complaints_same, k.challenges_same) refl
+pub same_test : {r next : Run} → Kept r next → (s : List ℕ) → passes_at r s ≡ passes_at next s
+same_test k s = rw (k.b_same, k.setup_same, k.dealings_same, k.complaints_same, k.challenges_same) refl
 
 module _ (r : Run) (s : List ℕ) (l : 4 ≤ stage_of r) where
   -- a tag that another stage takes is refused

@@ -1,13 +1,43 @@
 // A bundle of response rows (a sheaf, in document 02), given to a run in one call.
 #![tactic(auto)]
 
-ghost use Rattle.std.specs.Prelude.{◌≡◌, length};
+ghost use Rattle.std.specs.Prelude.{◌≡◌, ◌≤◌, length};
+ghost use Rattle.verification.specs.Definitions.{row_passes};
+ghost use Rattle.verification.specs.Tests.{qual_values};
 ghost use Rattle.run.specs.Runs.{stage_of};
 ghost use Rattle.run.specs.Steps.{reply_of};
 ghost use Rattle.bundle.specs.Bundles.{outcome, rows_of, given, bundled};
 
+use field::Element;
+use parameters::PLACES;
 use refusals::Refusal;
 use run::Run;
+use verification::Kept;
+
+// Whether each of the b numbers of a row passes. QUAL's committed values are combined for u from 1 to `ready`: for every u, once a row passes for those.
+fn passes(
+    kept: &Kept<'_>,
+    b: u8,
+    ready: &mut u8,
+    values: &mut [Element; PLACES],
+    row: &[u8],
+) -> bool
+    requires within { (ready.old ≤ b) × (b ≤ kept.now.setup.now.n) }
+    requires combined { values.old ≡ qual_values kept.now.setup.now kept.now.dealings.now kept.now.complaints.now ready.old }
+    ensures passed { result ≡ row_passes b kept.now.setup.now kept.now.dealings.now kept.now.complaints.now kept.now.challenges.now row.now }
+    ensures within { ready.new ≤ b }
+    ensures combined { values.new ≡ qual_values kept.now.setup.now kept.now.dealings.now kept.now.complaints.now ready.new }
+{
+    let holder = kept.holder_of(row);
+    if *ready < b {
+        if !kept.test_row(0, *ready, &holder, values, row) {
+            return false;
+        }
+        *values = kept.qual_values(b);
+        *ready = b;
+    }
+    kept.test_row(0, *ready, &holder, values, row)
+}
 
 // The run after the rows of a bundle, given one by one, and their numbers in a list that has a place for each.
 fn give_rows(run: Run, bytes: &[u8], numbers: &mut [u8]) -> Run
@@ -17,14 +47,12 @@ fn give_rows(run: Run, bytes: &[u8], numbers: &mut [u8]) -> Run
     let b = run.b;
     let length = records::response_length(b);
     let count = numbers.len();
-    let setup = run.setup;
-    let dealings = run.dealings;
-    let complaints = run.complaints;
-    let challenges = run.challenges.numbers;
+    let kept = run.kept();
     let mut ready: u8 = 1;
-    let mut values = verification::qual_values(setup, dealings, complaints, 1);
+    let mut values = kept.qual_values(1);
     let mut next = run;
     let mut from: usize = 0;
+    // by number: a row is cut from the rest by its length, the last perhaps short, and its number has a place in the list beside
     for x in 0..count {
         let rest = &bytes[from..];
         let size = if rest.len() < length {
@@ -33,19 +61,10 @@ fn give_rows(run: Run, bytes: &[u8], numbers: &mut [u8]) -> Run
             length
         };
         let row = &rest[..size];
-        let mut number = refusals::number_of(next.untaken(row));
+        let mut number = refusals::number_of(&next.untaken(row));
         let open = number == 0;
         if open {
-            let holder = verification::holder_of(setup, row);
-            // the values for every u, once a row passes for the first
-            if ready < b {
-                if verification::test_row(0, ready, setup, holder, challenges, values, row) {
-                    let all = verification::qual_values(setup, dealings, complaints, b);
-                    values = all;
-                    ready = b;
-                }
-            }
-            if verification::test_row(0, ready, setup, holder, challenges, values, row) {
+            if passes(&kept, b, &mut ready, &mut values, row) {
                 let taken = next.with_response(row);
                 next = taken;
             } else {

@@ -39,9 +39,9 @@ impl Chain {
         for place in digits.iter_mut() {
             let digit = (left % 4) as usize;
             *place = place.mul(powers[digit]);
-            left = left / 4;
+            left /= 4;
         }
-        Chain { digits: digits }
+        Chain { digits }
     }
 
     // What it comes to: from the highest digit down, to the fourth power and times the next.

@@ -34,7 +34,7 @@ impl Challenges {
         load_challenges(list, bytes, from, count)
     }
 
-    // Those of a CH: the shift is 0.
+    // Those of a CH: the shift is 0. What it has in common with a CS is `loaded`.
     pub fn with(self, a: u8, b: u8, bytes: &[u8]) -> Challenges
         ensures { result ≡ with_challenges a b self bytes.now }
     {

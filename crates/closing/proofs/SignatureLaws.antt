@@ -1,6 +1,7 @@
 -- The signature lines of one u, which a page has one after the other; and R(u,k), shifted, as the code finds it. Assumes nothing.
-use Rattle.std.specs.Prelude.{◌≡◌, List, ◌++◌, ℕ, zero, suc, ◌+◌, ◌*◌, ◌-◌, ◌/◌, ◌%◌, ◌≤◌, ◌<◌, length, get_or}
+use Rattle.std.specs.Prelude.{◌≡◌, List, ◌++◌, ℕ, zero, suc, ◌+◌, ◌*◌, ◌-◌, ◌/◌, ◌%◌, ◌≤◌, ◌<◌, length, take, drop, get_or}
 use Rattle.std.proofs.Common.{sym, ap, ap₂, ◌∙◌, append-nil, append_assoc, add-zero, add-suc, mul_comm, add-one, arith, length-append}
+use Rattle.std.proofs.lemmas.List.{get_or-take, get_or-drop}
 use Rattle.std.proofs.Math.Arith.{digits_lt, digits_div, digits_mod}
 use Rattle.sets.specs.Masks.{has}
 use Rattle.field.specs.declared.Scalar.{Scalar}
@@ -89,6 +90,14 @@ shifted_is r u k p q = ap₂ product p q
 pub kept_at : (r : Run) (u k : ℕ) → kept r u (k + 1) ≡ get_or r.signatures ((u - 1) * r.setup.a + k) (scalar 0)
 unfolding kept cell
 kept_at r u k = ap (λ (j : ℕ). get_or r.signatures ((u - 1) * r.setup.a + j) (scalar 0)) (omega arith)
+
+-- and among those of its u at k
+pub kept_part : (r : Run) (u k : ℕ) → k < r.setup.a →
+    let first = (u - 1) * r.setup.a in
+    get_or (take (first + r.setup.a - first) (drop first r.signatures)) k (scalar 0) ≡ kept r u (k + 1)
+kept_part r u k l =
+    let first = (u - 1) * r.setup.a in
+    get_or-take (first + r.setup.a - first) (drop first r.signatures) k (scalar 0) (omega (arith, l)) ∙ get_or-drop first r.signatures k (scalar 0) ∙ sym (kept_at r u k)
 
 pub kept_below : {n t a b : ℕ} → Bounds n t a → b ≤ n → (u k : ℕ) → 0 < u → u ≤ b → k < a → (u - 1) * a + k < cells
 kept_below {n} {t} {a} {b} h few u k p l c =

@@ -11,29 +11,17 @@ use streams::COUNT;
 // Gives a bundle to a run and prints the answer.
 fn serve(rt: &impl Print, run: Run, rows: &[u8], list: &mut [u8]) -> Run {
     streams::fill(list);
-    match bundle::take_rows(run, rows, list) {
-        Ok(next) => {
-            streams::answer(rt, 0, list);
-            next
-        }
-        Err(refusal) => {
-            streams::answer(rt, refusal.number(), list);
-            run
-        }
-    }
+    let reply = bundle::take_rows(run, rows, list);
+    streams::answer(rt, refusals::number_of(&reply), list);
+    reply.unwrap_or(run)
 }
 
-// φ(u,k), where the run has it.
-fn print_signature(rt: &impl Print, run: Run, u: u8, k: u8) {
-    if let Some(phi) = answers::signature_at(run, u, k) {
-        console::print_number(rt, phi.0 as u64);
-    }
-}
-
-// Every φ(u,k) for a u.
+// Every φ(u,k) for a u, where the run has it.
 fn print_signatures(rt: &impl Print, run: Run, u: u8) {
     for k in 1..=run.setup.a {
-        print_signature(rt, run, u, k);
+        if let Some(phi) = answers::signature_at(run, u, k) {
+            console::print_number(rt, phi.0 as u64);
+        }
     }
 }
 
@@ -63,6 +51,7 @@ fn split_bundle(s: &[u8]) -> Option<(usize, &[u8], &[u8])>
 fn serve_all(rt: &impl Print, start: Run, s: &[u8], list: &mut [u8; LIST]) {
     let mut run = start;
     let mut rest = s;
+    // a bundle says itself how long it is
     while !rest.is_empty() {
         let Some((places, rows, next)) = split_bundle(rest) else {
             streams::answer_broken(rt);

@@ -16,6 +16,7 @@ use parameters::{MOST_PARTIES, PLACES, STRIDE};
 use rows::{ROW, Row};
 
 // i^(u-1) as a scalar, i being the dealer's number.
+#[tactic(auto, unfolding(protocol::specs::Transcript::coefficient))]
 pub fn coefficient(i: u8, u: u8) -> Scalar
     ensures { result ≡ coefficient i u }
 {
@@ -26,20 +27,13 @@ pub fn coefficient(i: u8, u: u8) -> Scalar
 pub fn raised(list: [Element; PLACES], n: u8) -> [Element; PLACES]
     ensures { result ≡ raised n list }
 {
-    let count = if n < MOST_PARTIES {
-        n as usize * STRIDE
-    } else {
-        PLACES
-    };
+    let count = n.min(MOST_PARTIES) as usize * STRIDE;
     let mut next = list;
-    for (at, &value) in list[..count].iter().enumerate() {
+    for (at, value) in next[..count].iter_mut().enumerate() {
         // a power of 1 is 1, and most places have no value
-        let power = if value.same(Element::ONE) {
-            value
-        } else {
-            value.power((at / STRIDE + 1) as u32)
-        };
-        next[at] = power;
+        if !value.same(Element::ONE) {
+            *value = value.power((at / STRIDE + 1) as u32);
+        }
     }
     next
 }
@@ -49,11 +43,25 @@ pub fn powers_at(list: [Element; PLACES], n: u8, u: u8) -> [Element; PLACES]
     ensures { result ≡ powers_at n list (u - 1) }
 {
     let mut powers = list;
-    for step in 0..arrays::predecessor(u) {
+    for _ in 1..u {
         let next = raised(powers, n);
         powers = next;
     }
     powers
+}
+
+// The product over the dealers of a set of their values at v.
+fn combined_value(powers: &[Element; PLACES], qual: u64, n: u8, v: usize) -> Element
+    requires { v < stride }
+    ensures { result ≡ combined_value n (has qual) (commitment_in powers.now) 1 v }
+{
+    let mut product = Element::ONE;
+    for (i, values) in (0..n).zip(powers.chunks_exact(STRIDE)) {
+        if sets::has(qual, i + 1) {
+            product = product.mul(values[v]);
+        }
+    }
+    product
 }
 
 // The values of the dealers of a set, combined for the u whose powers these are: one product over the set for each v.
@@ -62,16 +70,8 @@ pub fn combined_values(powers: [Element; PLACES], qual: u64, n: u8, quorum: u8) 
 {
     let m = arrays::capped(quorum as usize);
     let mut values = [Element::ONE; ROW];
-    for v in 0..m {
-        let mut product = Element::ONE;
-        for i in 0..n {
-            if sets::has(qual, i + 1) {
-                let at = i as usize * STRIDE + v;
-                let value = arrays::item_or(&powers, at, Element::ONE);
-                product = product.mul(value);
-            }
-        }
-        values[v] = product;
+    for (v, value) in values[..m].iter_mut().enumerate() {
+        *value = combined_value(&powers, qual, n, v);
     }
     values
 }

@@ -20,10 +20,14 @@ const PACKING: u8 = 2;
 const BATCH: u8 = 4;
 
 // The value at party j of the polynomial that has these values at the first points from 1-a on.
-fn value_at(count: u8, values: [Scalar; ROW], j: u8) -> u32 {
-    points::committed_points(PACKING, count)
+fn value_at(values: &[Scalar], j: u8) -> u32 {
+    let mut row = [Scalar::ZERO; ROW];
+    for (place, &value) in row.iter_mut().zip(values) {
+        *place = value;
+    }
+    points::committed_points(PACKING, values.len().min(ROW) as u8)
         .weights(points::point(j, 0))
-        .sum(values)
+        .sum(row)
         .0
 }
 
@@ -32,39 +36,32 @@ const SECRET: u32 = 123456789;
 
 const FIRST_SHARE: u32 = 222222222;
 
-// The points at which the key is known, t+a of them.
-const KEY_POINTS: u8 = 3;
-
 // F(j), from s at the packed slots and F(1).
 fn key_share(j: u8) -> u32 {
-    let mut values = [Scalar::ZERO; ROW];
-    values[0] = Scalar(SECRET);
-    values[1] = Scalar(SECRET);
-    values[2] = Scalar(FIRST_SHARE);
-    value_at(KEY_POINTS, values, j)
+    let values = [Scalar(SECRET), Scalar(SECRET), Scalar(FIRST_SHARE)];
+    value_at(&values, j)
+}
+
+// The value of H_i at committed point v: a polynomial in v of degree 2.
+fn dealt_value(i: u8, v: u8) -> Scalar {
+    let dealer = Scalar(i as u32);
+    let point = Scalar(v as u32 + 1);
+    let square = point.mul(point);
+    let second = square.mul(Scalar(7654321)).mul(dealer);
+    dealer.mul(Scalar(10000019)).add(second).add(Scalar(17))
 }
 
 // The committed points of a dealing, t+2a-1 of them.
-const COMMITTED: u8 = 4;
+const COMMITTED: usize = 4;
 
-// The value of H_i at committed point v: a polynomial in v of degree 2.
-fn dealt_value(i: u8, v: u8) -> u32 {
-    let square = Scalar(v as u32 + 1).mul(Scalar(v as u32 + 1));
-    let second = square.mul(Scalar(7654321)).mul(Scalar(i as u32));
-    let value = Scalar(i as u32)
-        .mul(Scalar(10000019))
-        .add(second)
-        .add(Scalar(17));
-    value.0
+// The values of H_i there.
+fn dealt_values(i: u8) -> [Scalar; COMMITTED] {
+    [0, 1, 2, 3].map(|v| dealt_value(i, v))
 }
 
 // H_i(j), from those.
 fn dealt_share(i: u8, j: u8) -> u32 {
-    let mut values = [Scalar::ZERO; ROW];
-    for v in 0..COMMITTED {
-        values[v as usize] = Scalar(dealt_value(i, v));
-    }
-    value_at(COMMITTED, values, j)
+    value_at(&dealt_values(i), j)
 }
 
 // The length of the record SU; DEALING, COMPLAINT and RESPONSE are those of the others.
@@ -87,7 +84,7 @@ const WRONG_DEALER: u8 = 4;
 const WRONG_BYTE: usize = 23;
 
 fn deal(rt: &impl Print, run: Run, i: u8) -> Run {
-    let values = [0, 1, 2, 3].map(|v| dealt_value(i, v));
+    let values = dealt_values(i).map(|value| value.0);
     let mut out = [0u8; DEALING];
     if dealer::write_dealing(PARTIES, THRESHOLD, PACKING, i, &values, &mut out).is_err() {
         return run;

@@ -12,7 +12,7 @@ use dealing::{Dealings, Setup};
 use parameters::{MOST_PARTIES, PARTIES};
 use refusals::Refusal;
 
-// The accepted complaint rows (verdicts, in document 01). Holder j's mask stands at j - 1.
+// The accepted complaint rows (verdicts, in document 01): a flat array beside its count, as of the dealings. Holder j's mask stands at j - 1.
 #[derive(Clone, Copy)]
 pub struct Complaints {
     pub count: u8,
@@ -64,6 +64,7 @@ impl Complaints {
     }
 
     // The dealers of a set whom no kept mask of HOLD blames: QUAL, of all the accepted dealers.
+    #[tactic(auto, unfolding(crate::specs::Definitions::unblamed))]
     pub fn unblamed(self, n: u8, dealers: u64) -> u64
         ensures { result ≡ unblamed n self dealers }
     {
@@ -87,6 +88,7 @@ impl Complaints {
     }
 
     // With one more complaint row of a committee of n.
+    #[tactic(auto, unfolding(crate::specs::Definitions::with_complaint))]
     pub fn with(self, n: u8, bytes: &[u8]) -> Complaints
         requires { self.count ≤ 64 }
         ensures { result ≡ with_complaint n self bytes.now }

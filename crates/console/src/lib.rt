@@ -1,7 +1,8 @@
-// Standard input, output and error, as the programs use them. What a write could not write is let go, but where a function says otherwise.
+// Standard input, output and error, as the programs use them. What a write could not write is let go, but where a function says otherwise. Pieces of a line are
+// printed by functions with the runtime, and a line by one format where it is one.
 #![tactic(auto)]
 
-ghost use Rattle.std.specs.Prelude.{◌≡◌, ◌<◌, ◌≤◌, length, take, codes, if◌then◌else◌, IfOk, IfSome};
+ghost use Rattle.std.specs.Prelude.{◌≡◌, Some, ◌<◌, ◌≤◌, length, take, codes, if◌then◌else◌, IfOk, IfSome};
 ghost use Rattle.std.specs.Bool.{OnTrue};
 ghost use Rattle.std.specs.Io.KnownBytes.{Consumes, IsAtEnd, Keeps};
 
@@ -14,6 +15,7 @@ pub fn read_full<R: Read>(input: &mut R, buf: &mut [u8]) -> usize
     ensures bytes { Consumes (R.remaining input.old) (R.remaining input.new) (take result buf.new) }
 {
     let mut done: usize = 0;
+    // a read gives as much as it likes
     while done < buf.len() {
         match input.read(&mut buf[done..]) {
             Ok(n) if 0 < n => done += n,
@@ -86,11 +88,12 @@ pub fn serve_input<R: Read, F: FnOnce(&[u8])>(
     }
 }
 
-// Why a log has no page.
+// Why a log has no page, or none that is printed whole.
 #[derive(Clone, Copy, Debug, PartialEq, Eq)]
 enum Unmade {
     Unread,
     Empty,
+    Cut,
 }
 
 impl fmt::Display for Unmade {
@@ -98,12 +101,13 @@ impl fmt::Display for Unmade {
         f.write_str(match self {
             Unmade::Unread => "the log could not be read",
             Unmade::Empty => "the page could not be made",
+            Unmade::Cut => "the page could not be written whole",
         })
     }
 }
 
-// Reads a log and makes its page in a buffer. The report answers how many bytes the page has; there is no page of 0 bytes.
-fn make_page<'a, R: Read, F: FnOnce(&[u8], &mut [u8]) -> usize>(
+// Reads a log and makes its page in a buffer. The report answers how many bytes the page has, where it has made one; there is no page of 0 bytes.
+fn make_page<'a, R: Read, F: FnOnce(&[u8], &mut [u8]) -> Option<usize>>(
     input: &mut R,
     log: &mut [u8],
     page: &'a mut [u8],
@@ -111,18 +115,17 @@ fn make_page<'a, R: Read, F: FnOnce(&[u8], &mut [u8]) -> usize>(
 ) -> Result<&'a [u8], Unmade>
     requires { F.IsAlwaysCallable report }
     ensures some { IfOk result (λ s. 0 < length s.now) }
-    ensures made { IfOk result (λ s. (l : _) × (p : _) × (n : _) × (q : _) × F.post report l p n q × Consumes (R.remaining input.old) (R.remaining input.new) l.now × (p.now ≡ page.old) × (s.now ≡ take n q.now)) }
+    ensures made { IfOk result (λ s. (l : _) × (p : _) × (n : _) × (q : _) × F.post report l p (Some n) q × Consumes (R.remaining input.old) (R.remaining input.new) l.now × (p.now ≡ page.old) × (s.now ≡ take n q.now)) }
 {
     let log = read_input(input, log).ok_or(Unmade::Unread)?;
-    let size = report(log, page);
-    if size == 0 {
-        return Err(Unmade::Empty);
-    }
-    page.get(..size).ok_or(Unmade::Empty)
+    let size = report(log, page).ok_or(Unmade::Empty)?;
+    page.get(..size)
+        .filter(|made| !made.is_empty())
+        .ok_or(Unmade::Empty)
 }
 
 // Prints the page that a report makes of the log on the input. On standard error it says where that could not be done.
-pub fn print_page<R: Read, F: FnOnce(&[u8], &mut [u8]) -> usize>(
+pub fn print_page<R: Read, F: FnOnce(&[u8], &mut [u8]) -> Option<usize>>(
     rt: &(impl Print + Eprint),
     input: &mut R,
     program: &str,
@@ -132,13 +135,11 @@ pub fn print_page<R: Read, F: FnOnce(&[u8], &mut [u8]) -> usize>(
 )
     requires { F.IsAlwaysCallable report }
 {
-    match make_page(input, log, page, report) {
-        Ok(made) => {
-            if rt.write_all(made).is_err() {
-                say(rt, program, "the page could not be written whole");
-            }
-        }
-        Err(unmade) => say(rt, program, unmade),
+    let printed = make_page(input, log, page, report).and_then(|made| rt
+        .write_all(made)
+        .or(Err(Unmade::Cut)));
+    if let Err(unmade) = printed {
+        say(rt, program, unmade);
     }
 }
 

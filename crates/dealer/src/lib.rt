@@ -2,7 +2,6 @@
 #![tactic(auto)]
 
 ghost use Rattle.std.specs.Prelude.{◌≡◌, true, ◌+◌, ◌*◌, ◌≤◌, length, get_or, eqb};
-ghost use Rattle.std.proofs.lemmas.List.Edits.{sets};
 ghost use Rattle.lists.specs.Tests.{pick, all_to};
 ghost use Rattle.field.specs.Definitions.{scalar, is_scalar};
 ghost use Rattle.rows.specs.Definitions.{most_scalars};
@@ -35,6 +34,7 @@ fn load_scalars(list: &[u32]) -> [Scalar; ROW]
     values
 }
 
+#[tactic(auto, unfolding(crate::specs::Dealt::setup_refused, lists::specs::Tests::require))]
 fn setup_refused(n: u8, t: u8, a: u8, s: u32, shares: &[u32], room: usize) -> Result<(), Refusal>
     ensures { number_of result ≡ setup_refused n t a s shares.now room }
 {
@@ -73,18 +73,16 @@ pub fn write_setup(
     ensures bytes { out.new ≡ pick (eqb (number_of result) 0) (setup_bytes n t a s shares.now) out.old }
 {
     setup_refused(n, t, a, s, shares, out.len())?;
-    out[0] = b'S';
-    out[1] = b'U';
-    out[2] = n;
-    out[3] = t;
-    out[4] = a;
-    out[5] = 0;
+    let (head, keys) = out.split_at_mut(6);
+    let (first, others) = keys.split_at_mut(4);
+    head.copy_from_slice(&[b'S', b'U', n, t, a, 0]);
     let key = Element::GENERATOR.pow(Scalar(s));
-    encoding::put(out, 6, key.0);
-    encoding::put_powers(out, 10, shares);
+    encoding::put(first, key.0);
+    encoding::put_powers(others, shares);
     Ok(())
 }
 
+#[tactic(auto, unfolding(crate::specs::Dealt::dealing_refused, lists::specs::Tests::require))]
 fn dealing_refused(n: u8, t: u8, a: u8, i: u8, values: &[u32], room: usize) -> Result<(), Refusal>
     ensures { number_of result ≡ dealing_refused n t a i values.now room }
 {
@@ -107,17 +105,16 @@ fn dealing_refused(n: u8, t: u8, a: u8, i: u8, values: &[u32], room: usize) -> R
 }
 
 // The shares of a dealing for 1 to n.
-fn put_shares(out: &mut [u8], at: usize, n: u8, t: u8, a: u8, values: &[u32])
-    requires { (in_bounds n t a ≡ true) × (length values.now ≡ quorum t a) × (at + 4 * n ≤ length out.old) }
-    ensures { out.new ≡ sets out.old at (fours n (λ j. (share_for t a values.now (j + 1)).0)) }
+fn put_shares(out: &mut [u8], n: u8, t: u8, a: u8, values: &[u32])
+    requires { (in_bounds n t a ≡ true) × (length values.now ≡ quorum t a) × (length out.old ≡ 4 * n) }
+    ensures { out.new ≡ fours n (λ j. (share_for t a values.now (j + 1)).0) }
 {
     let list = load_scalars(values);
     let points = points::committed_points(a, parameters::quorum(t, a) as u8);
-    for j in 0..n {
-        let weights = points.weights(points::point(j + 1, 0));
-        let share = weights.sum(list);
-        encoding::put(out, at + 4 * j as usize, share.0);
-    }
+    encoding::put_each(out, n, |j| {
+        let weights = points.weights(points::point(j, 0));
+        weights.sum(list).0
+    });
 }
 
 // DE, from n, t, a, i and the values of H_i at its committed points.
@@ -133,11 +130,10 @@ pub fn write_dealing(
     ensures bytes { out.new ≡ pick (eqb (number_of result) 0) (dealing_bytes n t a i values.now) out.old }
 {
     dealing_refused(n, t, a, i, values, out.len())?;
-    out[0] = b'D';
-    out[1] = b'E';
-    out[2] = i;
-    out[3] = 0;
-    encoding::put_powers(out, 4, values);
-    put_shares(out, 4 + 4 * values.len(), n, t, a, values);
+    let (head, rest) = out.split_at_mut(4);
+    let (committed, shares) = rest.split_at_mut(4 * values.len());
+    head.copy_from_slice(&[b'D', b'E', i, 0]);
+    encoding::put_powers(committed, values);
+    put_shares(shares, n, t, a, values);
     Ok(())
 }

@@ -16,7 +16,7 @@ use parameters::{MOST_PARTIES, PARTIES, PLACES, STRIDE};
 use refusals::Refusal;
 use rows::ROW;
 
-// The accepted setup: the parameters, and S, S_1 to S_t.
+// The accepted setup: the parameters, and S, S_1 to S_t. A run is answered whatever it holds, so that no invariant keeps the parameters within the bounds.
 #[derive(Clone, Copy)]
 pub struct Setup {
     pub n: u8,
@@ -25,7 +25,8 @@ pub struct Setup {
     pub key: [Element; PARTIES],
 }
 
-// The accepted dealings. Dealer i's committed values stand from (i - 1) × STRIDE, and the holders whose share from i is not valid at i - 1.
+// The accepted dealings: flat arrays beside their count, the form that document 01 names. Dealer i's committed values stand from (i - 1) × STRIDE, and the holders whose share from i is not valid at
+// i - 1.
 #[derive(Clone, Copy)]
 pub struct Dealings {
     pub count: u8,

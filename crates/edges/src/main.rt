@@ -28,26 +28,29 @@ fn reading_word(reading: Reading) -> &'static str {
 
 // The number; whether it is a scalar; what it is as an element; its remainder, its inverse; its power 3; 4 to it.
 fn print_single(rt: &impl Print, x: u32) {
+    let scalar = Scalar(x);
     let _ = println!(rt;
         "{x} {} {} {} {} {} {} ",
         word(Scalar::accepts(x)),
         reading_word(Element::read(x)),
         Scalar::new(x).0,
-        Scalar(x).inverse().0,
-        Scalar(x).power(3).0,
-        Element::GENERATOR.pow(Scalar(x)).0
+        scalar.inverse().0,
+        scalar.power(3).0,
+        Element::GENERATOR.pow(scalar).0
     );
 }
 
 // Two numbers; sum, difference and product of scalars; product and power of elements.
 fn print_pair(rt: &impl Print, x: u32, y: u32) {
+    let (a, b) = (Scalar(x), Scalar(y));
+    let (v, w) = (Element(x), Element(y));
     let _ = println!(rt;
         "{x} {y} {} {} {} {} {} ",
-        Scalar(x).add(Scalar(y)).0,
-        Scalar(x).sub(Scalar(y)).0,
-        Scalar(x).mul(Scalar(y)).0,
-        Element(x).mul(Element(y)).0,
-        Element(x).pow(Scalar(y)).0
+        a.add(b).0,
+        a.sub(b).0,
+        a.mul(b).0,
+        v.mul(w).0,
+        v.pow(b).0
     );
 }
 

@@ -1,37 +1,57 @@
-// Numbers as bytes, high byte first, into a buffer that the caller lends, at a place with room for them.
+// Numbers as bytes, high byte first, into the slice that they fill.
 #![tactic(auto)]
 
-ghost use Rattle.std.specs.Prelude.{◌≡◌, ◌+◌, ◌*◌, ◌≤◌, length, get_or};
-ghost use Rattle.std.proofs.lemmas.List.Edits.{sets};
+ghost use Rattle.std.specs.Prelude.{◌≡◌, ℕ, ◌+◌, ◌*◌, ◌<◌, ◌≤◌, length, get_or};
 ghost use Rattle.encoding.specs.Bytes.{bytes_of, four, fours, power_of_four};
 
 use field::{Element, Scalar};
 
-// A number of so many bytes.
-pub fn put_bytes(out: &mut [u8], at: usize, width: u8, x: u64)
-    requires { (at + width ≤ length out.old) × (width ≤ 8) }
-    ensures { out.new ≡ sets out.old at (bytes_of width x) }
+// The bytes of the widest number.
+const WIDE: usize = 8;
+
+// The bytes of a number of four.
+const NUMBER: usize = 4;
+
+// A number of as many bytes as the slice has.
+pub fn put_bytes(out: &mut [u8], x: u64)
+    requires { length out.old ≤ 8 }
+    ensures { out.new ≡ bytes_of (length out.old) x }
 {
     let bytes = x.to_be_bytes();
-    let w = width as usize;
-    out[at..at + w].copy_from_slice(&bytes[8 - w..]);
+    let from = WIDE - out.len();
+    out.copy_from_slice(&bytes[from..]);
 }
 
 // A number of four bytes.
-pub fn put(out: &mut [u8], at: usize, x: u32)
-    requires { at + 4 ≤ length out.old }
-    ensures { out.new ≡ sets out.old at (four x) }
+pub fn put(out: &mut [u8], x: u32)
+    requires { length out.old ≡ 4 }
+    ensures { out.new ≡ four x }
 {
-    put_bytes(out, at, 4, x as u64);
+    put_bytes(out, x as u64);
 }
 
 // 4^x for each x of a list.
-pub fn put_powers(out: &mut [u8], at: usize, list: &[u32])
-    requires { at + 4 * length list.now ≤ length out.old }
-    ensures { out.new ≡ sets out.old at (fours (length list.now) (λ i. power_of_four (get_or list.now i 0))) }
+pub fn put_powers(out: &mut [u8], list: &[u32])
+    requires { length out.old ≡ 4 * length list.now }
+    ensures { out.new ≡ fours (length list.now) (λ i. power_of_four (get_or list.now i 0)) }
 {
     for (i, &x) in list.iter().enumerate() {
         let power = Element::GENERATOR.pow(Scalar(x));
-        put(out, at + 4 * i, power.0);
+        let at = NUMBER * i;
+        put(&mut out[at..at + NUMBER], power.0);
+    }
+}
+
+// What a rule gives for 1 to count.
+pub fn put_each<F: Fn(u8) -> u32>(out: &mut [u8], count: u8, rule: F)
+    requires long { length out.old ≡ 4 * count }
+    requires callable { F.IsAlwaysCallable rule }
+    ensures { (f : ℕ → ℕ) → ((v : ℕ) → v < count → (x : ℕ) → F.post rule (v + 1) x → x ≡ f v) → out.new ≡ fours count f }
+{
+    // by number: of the parts of `chunks_exact_mut` beside a range the proof knows no more than how many there are
+    for i in 0..count {
+        let number = rule(i + 1);
+        let at = NUMBER * i as usize;
+        put(&mut out[at..at + NUMBER], number);
     }
 }

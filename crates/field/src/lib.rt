@@ -2,18 +2,18 @@
 #![tactic(auto)]
 
 ghost use Rattle.std.specs.Prelude.{◌≡◌, ◌<◌};
-ghost use Rattle.field.specs.Definitions.{scalar, identity, generator, power_of, reduced, plus, minus, times, inverse, power, is_scalar, same_element, product, powered, raise, read_element, some_element};
+ghost use Rattle.field.specs.Definitions.{scalar, identity, generator, power_of, reduced, plus, minus, times, inverse, power, is_scalar, same_element, product, powered, raise, reading_of, read_element, some_element};
 
 // A number from 0 to q - 1, counted modulo q.
-#[derive(Clone, Copy)]
+#[derive(Clone, Copy, Debug, PartialEq, Eq)]
 pub struct Scalar(pub u32);
 
-// A number V from 1 to P - 1 with V^q = 1 modulo P.
-#[derive(Clone, Copy)]
+// A number V from 1 to P - 1 with V^q = 1 modulo P. Two structs and no type over the modulus: document 01 names the form.
+#[derive(Clone, Copy, Debug, PartialEq, Eq)]
 pub struct Element(pub u32);
 
 // What a number is, read as one of the group.
-#[derive(Clone, Copy)]
+#[derive(Clone, Copy, Debug, PartialEq, Eq)]
 pub enum Reading {
     NoElement,
     Identity,
@@ -21,6 +21,7 @@ pub enum Reading {
 }
 
 // base^exponent modulo the modulus, by square and multiply.
+#[tactic(auto, using(crate::proofs::Fits::product_fits))]
 fn power_of(modulus: u32, base: u32, exponent: u32) -> u32
     requires { 1 < modulus }
     ensures { result ≡ power_of modulus base exponent }
@@ -29,12 +30,13 @@ fn power_of(modulus: u32, base: u32, exponent: u32) -> u32
     let mut product: u64 = 1;
     let mut square = base as u64;
     let mut left = exponent;
+    // by what is left of the exponent, and not over a list
     while 1 < left {
         if left % 2 == 1 {
             product = product * square % m;
         }
         square = square * square % m;
-        left = left / 2;
+        left /= 2;
     }
     let last = if left == 1 { square } else { 1 };
     (product * last % m) as u32
@@ -64,20 +66,23 @@ impl Scalar {
         Scalar::ONE
     }
 
-    // The scalar that a number comes to modulo q.
+    // The scalar that a number comes to modulo q. No `From`, which would lose nothing.
+    #[tactic(auto, unfolding(crate::specs::Definitions::reduced, crate::specs::Definitions::q))]
     pub fn new(x: u32) -> Scalar
         ensures { result ≡ reduced x }
     {
         Scalar(x % Scalar::MODULUS)
     }
 
-    // Whether a number is a scalar as it stands.
+    // Whether a number is a scalar as it stands. No `TryFrom`: who asks keeps the number.
+    #[tactic(auto, unfolding(crate::specs::Definitions::is_scalar, crate::specs::Definitions::q))]
     pub fn accepts(x: u32) -> bool
         ensures { result ≡ is_scalar x }
     {
         x < Scalar::MODULUS
     }
 
+    #[tactic(auto, unfolding(crate::specs::Definitions::plus, crate::specs::Definitions::q))]
     pub fn add(self, other: Scalar) -> Scalar
         ensures { result ≡ plus self other }
     {
@@ -85,6 +90,7 @@ impl Scalar {
         Scalar((sum % Scalar::WIDE) as u32)
     }
 
+    #[tactic(auto, unfolding(crate::specs::Definitions::minus, crate::specs::Definitions::q))]
     pub fn sub(self, other: Scalar) -> Scalar
         ensures { result ≡ minus self other }
     {
@@ -93,6 +99,7 @@ impl Scalar {
         Scalar((total % Scalar::WIDE) as u32)
     }
 
+    #[tactic(auto, using(crate::proofs::Fits::product_fits), unfolding(crate::specs::Definitions::times, crate::specs::Definitions::q))]
     pub fn mul(self, other: Scalar) -> Scalar
         ensures { result ≡ times self other }
     {
@@ -106,6 +113,7 @@ impl Scalar {
     {
         let mut factor = Scalar::ONE;
         let mut left = self.0 % Scalar::MODULUS;
+        // by remainders, and not over a list
         while 1 < left {
             let minus_quotient = Scalar(Scalar::MODULUS - Scalar::MODULUS / left);
             factor = factor.mul(minus_quotient);
@@ -115,6 +123,7 @@ impl Scalar {
     }
 
     // This scalar to the power of a whole number.
+    #[tactic(auto, unfolding(crate::specs::Definitions::power, crate::specs::Definitions::q))]
     pub fn power(self, exponent: u32) -> Scalar
         ensures { result ≡ power self exponent }
     {
@@ -123,15 +132,24 @@ impl Scalar {
 }
 
 impl Reading {
+    // The reading of a number: whether it is of the group, and whether it is 1.
+    #[tactic(auto, unfolding(crate::specs::Definitions::reading_of))]
+    fn of(of_group: bool, one: bool) -> Reading
+        ensures { result ≡ reading_of of_group one }
+    {
+        match (of_group, one) {
+            (false, _) => Reading::NoElement,
+            (true, true) => Reading::Identity,
+            (true, false) => Reading::Other,
+        }
+    }
+
     // Whether it is an element, the identity or another.
+    #[tactic(auto, unfolding(crate::specs::Definitions::some_element))]
     pub fn is_element(self) -> bool
         ensures { result ≡ some_element self }
     {
-        match self {
-            Reading::NoElement => false,
-            Reading::Identity => true,
-            Reading::Other => true,
-        }
+        self != Reading::NoElement
     }
 }
 
@@ -160,33 +178,25 @@ impl Element {
     }
 
     // What a number is as it stands: by its order, and not by range alone.
+    #[tactic(auto, unfolding(crate::specs::Definitions::read_element, crate::specs::Definitions::P, crate::specs::Definitions::q))]
     pub fn read(x: u32) -> Reading
         ensures { result ≡ read_element x }
     {
-        let none = x == 0;
-        if none {
-            return Reading::NoElement;
-        }
-        if Element::MODULUS <= x {
-            return Reading::NoElement;
-        }
-        let one = x == 1;
-        if one {
-            return Reading::Identity;
-        }
-        if power_of(Element::MODULUS, x, Scalar::MODULUS) == 1 {
-            return Reading::Other;
-        }
-        Reading::NoElement
+        let of_group = 0 < x
+            && x < Element::MODULUS
+            && power_of(Element::MODULUS, x, Scalar::MODULUS) == 1;
+        Reading::of(of_group, x == 1)
     }
 
     // Whether both are one element.
+    #[tactic(auto, unfolding(crate::specs::Definitions::same_element))]
     pub fn same(self, other: Element) -> bool
         ensures { result ≡ same_element self other }
     {
-        self.0 == other.0
+        self == other
     }
 
+    #[tactic(auto, using(crate::proofs::Fits::product_fits), unfolding(crate::specs::Definitions::product, crate::specs::Definitions::P))]
     pub fn mul(self, other: Element) -> Element
         ensures { result ≡ product self other }
     {
@@ -195,6 +205,7 @@ impl Element {
     }
 
     // This element to the power of a whole number.
+    #[tactic(auto, unfolding(crate::specs::Definitions::powered, crate::specs::Definitions::P))]
     pub fn power(self, exponent: u32) -> Element
         ensures { result ≡ powered self exponent }
     {
@@ -202,6 +213,7 @@ impl Element {
     }
 
     // To the power of a scalar.
+    #[tactic(auto, unfolding(crate::specs::Definitions::raise))]
     pub fn pow(self, exponent: Scalar) -> Element
         ensures { result ≡ raise self exponent }
     {

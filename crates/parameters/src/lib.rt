@@ -19,6 +19,7 @@ pub const PLACES: usize = PARTIES * STRIDE;
 pub const CELLS: usize = PLACES / 2;
 
 // Whether n parties, threshold t and packing a are within the bounds.
+#[tactic(auto, unfolding(crate::specs::Definitions::in_bounds))]
 pub fn in_bounds(n: u8, t: u8, a: u8) -> bool
     ensures { result ≡ in_bounds n t a }
 {
@@ -38,6 +39,7 @@ pub fn in_bounds(n: u8, t: u8, a: u8) -> bool
 }
 
 // The quorum (need, in document 01): the committed values of a dealing, and the responses that a signature takes.
+#[tactic(auto, unfolding(crate::specs::Definitions::quorum))]
 pub fn quorum(t: u8, a: u8) -> u16
     ensures { result ≡ quorum t a }
 {
@@ -46,6 +48,7 @@ pub fn quorum(t: u8, a: u8) -> u16
 }
 
 // b, the signatures of a packed slot, with m dealings.
+#[tactic(auto, unfolding(crate::specs::Definitions::batch))]
 pub fn batch(m: u8, t: u8) -> u8
     ensures { result ≡ batch m t }
 {

@@ -10,6 +10,7 @@ use field::Scalar;
 use rows::{MOST_SCALARS, ROW, Row};
 
 // The integer x - y as a point.
+#[tactic(auto, using(interpolation::proofs::PointLaws::point_is))]
 pub fn point(x: u8, y: u8) -> Scalar
     ensures { result ≡ point x y }
 {
@@ -21,16 +22,12 @@ fn listed<F: Fn(u8) -> Scalar>(count: u8, rule: F) -> Row
     requires { F.IsAlwaysCallable rule }
     ensures { (f : ℕ → Scalar) → ((v : ℕ) → v < most_scalars → (x : Scalar) → F.post rule (v + 1) x → x ≡ f v) → result ≡ listed count f }
 {
-    let m = if count < MOST_SCALARS {
-        count
-    } else {
-        MOST_SCALARS
-    };
+    let m = count.min(MOST_SCALARS);
     let mut at = [Scalar::ZERO; ROW];
     for (v, place) in at[..m as usize].iter_mut().enumerate() {
         *place = rule(v as u8 + 1);
     }
-    Row { at: at, count: m }
+    Row { at, count: m }
 }
 
 // The points 1 - a, 2 - a, .., count of them: where a dealing or the key is committed to.

@@ -15,6 +15,7 @@ use Rattle.run.specs.Steps.{step_of}
 use Rattle.run.specs.NumberLaws.{number_max}
 use Rattle.reader.specs.Cutting.{own_length, by_batch, length_at, length_of, whole}
 use Rattle.reader.specs.Report.{refuse_word, longest, most_refusal, refusal_line}
+use Rattle.reader.specs.Stretches.{number_lines}
 use Rattle.reader.specs.Turns.{next_length, next_record, next_rest, lines_from}
 use Rattle.reader.proofs.TurnLaws.{whole_pos, next_pos, next_max, lines_none, lines_next}
 
@@ -75,6 +76,11 @@ unfolding refusal_line
 line_room position number =
     pick_case (λ (l : List ℕ). length l ≤ most_refusal) (eqb number 0) [] (line refuse_word (position ∷ number ∷ [])) (λ e. omega arith)
     (λ e. omega (arith, line_max refuse_word (position ∷ number ∷ [])))
+
+pub numbers_room : (position : ℕ) (l : List ℕ) → length (number_lines position l) ≤ most_refusal * length l
+unfolding number_lines
+numbers_room position [] = omega arith
+numbers_room position (k ∷ l) = simp length-append (omega (arith, line_room position k, numbers_room (position + 1) l))
 
 pub empty_or : (s : List ℕ) → (s ≡ []) ⊎ (0 < length s)
 empty_or [] = inl refl

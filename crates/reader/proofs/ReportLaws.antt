@@ -1,14 +1,15 @@
 -- What is promised of every log and its page. Assumes nothing.
-use Rattle.std.specs.Prelude.{◌≡◌, ℕ, zero, suc, ◌≤◌, length, ltb}
+use Rattle.std.specs.Prelude.{◌≡◌, ℕ, zero, suc, ◌≤◌, ◌<◌, length, ltb}
 use Rattle.std.proofs.Common.{sym, ap, ◌∙◌, ⊎_elim, arith, length-append, length-drop, take-append-drop, ltb-false}
-use mathlib.Core.List.{List, [], flatten, ◌++◌}
+use mathlib.Core.List.{List, [], ◌∷◌, flatten, ◌++◌}
 use Rattle.lists.specs.TestLaws.{pick_case}
 use Rattle.text.specs.Lines.{line}
-use Rattle.text.proofs.LineLaws.{line_max}
+use Rattle.text.proofs.LineLaws.{line_max, line_some}
 use Rattle.run.specs.declared.Run.{Run}
-use Rattle.run.specs.Runs.{fresh}
+use Rattle.run.specs.Runs.{fresh, stage_of}
 use Rattle.run.specs.Steps.{step_of, after}
 use Rattle.run.specs.PartyLaws.{Few, few_fresh, few_after}
+use Rattle.closing.specs.Closing.{end_word, closing}
 use Rattle.closing.proofs.LengthLaws.{closing_max}
 use Rattle.reader.specs.Cutting.{records_of, run_of}
 use Rattle.reader.specs.Report.{long_word, longest, report_of}
@@ -50,3 +51,10 @@ report_fits log =
     (λ e.
     let short = ltb-false longest (length log) e in
     rw (lines_start log) (simp length-append (omega (arith, short, lines_max log short, closing_max (run_of log) (run_few log)))))
+
+-- and no page is empty
+pub report_some : (log : List ℕ) → 0 < length (report_of log)
+unfolding report_of closing
+report_some log =
+    pick_case (λ (l : List ℕ). 0 < length l) (ltb longest (length log)) (line long_word []) _ (λ e. line_some long_word [])
+    (λ e. let last = line_some end_word (stage_of (run_of log) ∷ []) in simp length-append (omega (arith, last)))

@@ -27,7 +27,7 @@ use Rattle.bundle.proofs.RowLaws.{row_code, stage_batch}
 use Rattle.bundle.proofs.CutLaws.{cut, cut_none, cut_next, row_is, row_rest, drop_take}
 use Rattle.reader.specs.Cutting.{by_batch, length_at, length_of, whole}
 use Rattle.reader.specs.Report.{refusal_line, refusal_lines}
-use Rattle.reader.specs.Turns.{next_length, next_record, records_from, lines_from, run_from}
+use Rattle.reader.specs.Turns.{next_length, next_record, records_from, lines_from, run_from, Turn}
 use Rattle.reader.proofs.TurnLaws.{whole_max, next_pos, next_max, tag_alone, records_next}
 use Rattle.reader.specs.Stretches.{most_rows, is_row, stretch_of, rows_ahead, number_lines}
 
@@ -276,13 +276,7 @@ rows_max r s =
     (λ e. pick_case (λ (k : ℕ). k ≤ most_rows) (ltb (r.b / 2) rows) rows 0 (λ f. stretch_max r.b most_rows s) (λ f. omega arith))
     (λ e. omega arith)
 
--- ---- a turn of a log: its next records are given to the run, l of them, which take n bytes
-
-pub record Turn (r : Run) (s : List ℕ) (l : List (List ℕ)) (n : ℕ) : Type 0 where
-  pub records_are : records_from r s ≡ l ++ records_from (after_from r l) (drop n s)
-  pub within : n ≤ length s
-  pub count_max : length l ≤ n
-  pub some : 0 < n
+-- ---- a turn of a log
 
 module _ {r : Run} {s : List ℕ} {l : List (List ℕ)} {n : ℕ} (t : Turn r s l n) where
   pub turn_lines : (position : ℕ) → lines_from position r s ≡ number_lines position (numbers_from r l) ++ lines_from (position + length l) (after_from r l) (drop n s)

@@ -1,11 +1,15 @@
 -- A log as records end to end (document 01, "A log is .."; SX and GO are of document 02, request 2.5).
-use Rattle.std.specs.Prelude.{ℕ, zero, suc, Bool, ◌&&◌, List, [], ◌∷◌, length, take, drop, eqb, leb}
+use Rattle.std.specs.Prelude.{ℕ, zero, suc, Bool, ◌&&◌, Option, Some, None, List, [], ◌∷◌, length, take, drop, eqb, leb}
 use Rattle.lists.specs.Tests.{pick}
 use Rattle.records.specs.Bytes.{byte_at}
 use Rattle.records.specs.Tags.{Tag, SU, SX, DE, GO, VE, CH, CS, RE, unknown, tag_of, setup_length, dealing_length, complaint_length, challenges_length, shifted_length, response_length, go_length}
 use Rattle.run.specs.declared.Run.{Run}
 use Rattle.run.specs.Runs.{fresh}
 use Rattle.run.specs.Steps.{step_of, after}
+
+-- a length as the code answers it: none for 0
+unfoldable pub some_length : ℕ → Option ℕ
+some_length k = pick (eqb k 0) None (Some k)
 
 -- the length of an SU or SX by its own t; 0 where it is cut before that
 unfoldable pub own_length : List ℕ → ℕ

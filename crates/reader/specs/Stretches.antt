@@ -1,10 +1,13 @@
 -- Consecutive response rows of a log, which a run at stage 4 is given in one call.
-use Rattle.std.specs.Prelude.{ℕ, zero, suc, ◌+◌, ◌/◌, Bool, List, [], ◌∷◌, ◌++◌, drop, eqb, ltb}
+use Rattle.std.specs.Prelude.{◌≡◌, ℕ, zero, suc, ◌+◌, ◌/◌, ◌≤◌, Bool, List, [], ◌∷◌, ◌++◌, length, take, drop, eqb, ltb}
 use Rattle.lists.specs.Tests.{pick}
 use Rattle.records.specs.Tags.{RE, code, tag_of, response_length}
 use Rattle.run.specs.declared.Run.{Run}
 use Rattle.run.specs.Runs.{stage_of}
+use Rattle.run.specs.Steps.{after_from}
+use Rattle.bundle.specs.Bundles.{numbers_from}
 use Rattle.reader.specs.Report.{refusal_line}
+use Rattle.reader.specs.Turns.{Turn}
 
 -- the most rows of one call, and a position that no log reaches
 abbrev pub most_rows : ℕ
@@ -32,3 +35,12 @@ rows_ahead r s =
 unfoldable pub number_lines : ℕ → List ℕ → List ℕ
 number_lines position [] = []
 number_lines position (k ∷ l) = refusal_line position k ++ number_lines (position + 1) l
+
+-- what a turn of s has given to r: its records, with the run after them and, in the first places of a list, the numbers that they are answered with
+pub record Given (r : Run) (s : List ℕ) (run : Run) (numbers : List ℕ) (count size : ℕ) : Type 0 where
+  pub records : List (List ℕ)
+  pub turn : Turn r s records size
+  pub run_is : run ≡ after_from r records
+  pub numbers_are : take count numbers ≡ numbers_from r records
+  pub count_is : count ≡ length records
+  pub fits : count ≤ most_rows

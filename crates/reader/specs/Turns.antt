@@ -1,5 +1,5 @@
 -- A log taken turn by turn: each turn gives the run one record and passes over it.
-use Rattle.std.specs.Prelude.{◌≡◌, Bool, ◌≢◌, ◌⊎◌, List, ℕ, ◌≤◌, ◌<◌, length, take, drop, eqb}
+use Rattle.std.specs.Prelude.{◌≡◌, Bool, ◌≢◌, ◌⊎◌, List, ◌++◌, ℕ, ◌≤◌, ◌<◌, length, take, drop, eqb}
 use Rattle.lists.specs.Tests.{pick}
 use Rattle.records.specs.Tags.{SU, SX, CH, CS, RE, unknown, tag_of}
 use Rattle.run.specs.declared.Run.{Run}
@@ -29,6 +29,13 @@ lines_from position r s = refusal_lines position r (records_from r s)
 
 unfoldable pub run_from : Run → List ℕ → Run
 run_from r s = after_from r (records_from r s)
+
+-- a turn: the next records, l of them, are given to the run, and take n bytes
+pub record Turn (r : Run) (s : List ℕ) (l : List (List ℕ)) (n : ℕ) : Type 0 where
+  pub records_are : records_from r s ≡ l ++ records_from (after_from r l) (drop n s)
+  pub within : n ≤ length s
+  pub count_max : length l ≤ n
+  pub some : 0 < n
 
 -- ---- what is left of a log
 

@@ -29,6 +29,7 @@ const MOST_NARROW: u8 = 32;
 pub const GO_LENGTH: usize = 2;
 
 // The byte at a place, and 0 past the end.
+#[tactic(auto, unfolding(crate::specs::Bytes::byte_at))]
 pub fn byte(s: &[u8], at: usize) -> u8
     ensures { result ≡ byte_at s.now at }
 {
@@ -48,13 +49,15 @@ pub fn number(s: &[u8], at: u32) -> u32
 }
 
 // Number i of those that stand from a place on.
+#[tactic(auto, unfolding(crate::specs::Bytes::word))]
 pub fn word(s: &[u8], at: u16, i: u16) -> u32
     ensures { result ≡ word s.now at i }
 {
     number(s, at as u32 + 4 * i as u32)
 }
 
-// The tag (mark, in document 01) of a record: 1 SU, 2 DE, 3 VE, 4 CH, 5 RE, 6 CS, 7 SX, 8 GO, and 0 for none of these.
+// The tag (mark, in document 01) of a record: 1 SU, 2 DE, 3 VE, 4 CH, 5 RE, 6 CS, 7 SX, 8 GO, and 0 for none of these. Codes and no enum: document 01 names the
+// form, a match over mark codes and stage numbers.
 pub fn tag(s: &[u8]) -> u8
     ensures { result ≡ code (tag_of s.now) }
 {
@@ -75,12 +78,14 @@ pub fn tag(s: &[u8]) -> u8
     }
 }
 
+#[tactic(auto, unfolding(crate::specs::Tags::setup_length))]
 pub fn setup_length(t: u8) -> usize
     ensures { result ≡ setup_length t }
 {
     4 * t as usize + 10
 }
 
+#[tactic(auto, unfolding(crate::specs::Tags::dealing_length))]
 pub fn dealing_length(n: u8, t: u8, a: u8) -> usize
     ensures { result ≡ dealing_length n t a }
 {
@@ -88,18 +93,22 @@ pub fn dealing_length(n: u8, t: u8, a: u8) -> usize
 }
 
 // The bytes of the mask of a complaint row: four for up to 32 parties, eight for more.
+#[tactic(auto, unfolding(crate::specs::Tags::mask_width))]
 pub fn mask_width(n: u8) -> u8
     ensures { result ≡ mask_width n }
 {
-    if n <= MOST_NARROW { 4 } else { 8 }
+    let narrow = n <= MOST_NARROW;
+    if narrow { 4 } else { 8 }
 }
 
+#[tactic(auto, unfolding(crate::specs::Tags::complaint_length))]
 pub fn complaint_length(n: u8) -> usize
     ensures { result ≡ complaint_length n }
 {
     4 + mask_width(n) as usize
 }
 
+#[tactic(auto, unfolding(crate::specs::Tags::challenges_length))]
 pub fn challenges_length(a: u8, b: u8) -> usize
     ensures { result ≡ challenges_length a b }
 {
@@ -112,6 +121,7 @@ pub fn shifted_length(a: u8, b: u8) -> usize
     4 + challenges_length(a, b)
 }
 
+#[tactic(auto, unfolding(crate::specs::Tags::response_length))]
 pub fn response_length(b: u8) -> usize
     ensures { result ≡ response_length b }
 {

@@ -1,5 +1,5 @@
 -- No refusal has the number of acceptance, and no answer that refuses. Assumes nothing.
-use Rattle.std.specs.Prelude.{◌≡◌, refl, ◌≢◌, Bool, true, false, eqb, Result, Ok, Err, is_ok}
+use Rattle.std.specs.Prelude.{◌≡◌, refl, ◌≢◌, false, eqb, Result, Ok, Err, is_ok}
 use Rattle.std.proofs.Common.{sym, ap, ◌∙◌, true≢false}
 use Rattle.refusals.specs.declared.Refusal.{Refusal}
 use Rattle.refusals.specs.declared.Refusal.TheVariants.{UnknownTag, WrongLength, ReservedByte, OutOfBounds, NoParty, NotScalar, NotElement, WideMask, WrongRoom, WrongCount, WrongStage, AlreadySent, FalseBlame, NotInHold, FailedResponse, IdentityKey, FewDealings}

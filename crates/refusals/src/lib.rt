@@ -60,11 +60,11 @@ impl Refusal {
 }
 
 // The number of an answer, 0 where nothing is refused.
-pub fn number_of(answer: Result<(), Refusal>) -> u8
-    ensures { result ≡ number_of answer }
+pub fn number_of<T>(answer: &Result<T, Refusal>) -> u8
+    ensures { result ≡ number_of answer.now }
 {
     match answer {
-        Ok(()) => 0,
+        Ok(_) => 0,
         Err(refusal) => refusal.number(),
     }
 }
@@ -212,7 +212,7 @@ fn scalars_refusal(s: &[u8], size: usize, count: u16) -> Result<(), Refusal>
     Ok(())
 }
 
-// The refusal of challenges.
+// The refusal of challenges, and that of a shift with challenges: one function for both would be handed what `scalars_refusal` is.
 #[tactic(auto, unfolding(crate::specs::Refusals::challenges_refusal))]
 pub fn challenges_refusal(a: u8, b: u8, s: &[u8]) -> Result<(), Refusal>
     ensures { number_of result ≡ challenges_refusal a b s.now }

@@ -13,7 +13,7 @@ pub const MOST_SCALARS: u8 = 64;
 
 pub const ROW: usize = MOST_SCALARS as usize;
 
-// A list of at most 64 scalars, points or weights, with its count. A count above 64 counts as 64.
+// A list of at most 64 scalars, points or weights, with its count, by value: document 01 names the form. A count above 64 counts as 64.
 #[derive(Clone, Copy)]
 pub struct Row {
     pub at: [Scalar; ROW],
@@ -29,25 +29,19 @@ pub struct Basis {
 
 impl Row {
     // The count, at most 64.
+    #[tactic(auto, unfolding(crate::specs::Definitions::size))]
     pub fn len(self) -> u8
         ensures { result ≡ size self }
     {
-        if self.count < MOST_SCALARS {
-            self.count
-        } else {
-            MOST_SCALARS
-        }
+        self.count.min(MOST_SCALARS)
     }
 
     // Scalar i, and 0 past the array's end.
+    #[tactic(auto, unfolding(crate::specs::Definitions::nth))]
     fn item(self, i: u8) -> Scalar
         ensures { result ≡ nth self i }
     {
-        if i < MOST_SCALARS {
-            self.at[i as usize]
-        } else {
-            Scalar::ZERO
-        }
+        self.at.get(i as usize).copied().unwrap_or(Scalar::ZERO)
     }
 
     // The inverse of the product of point i's differences from the others.
@@ -115,10 +109,11 @@ impl Row {
             let from = m as usize - 1 - i;
             *place = self.at[from];
         }
-        Row { at: at, count: m }
+        Row { at, count: m }
     }
 
     // The weights of these points at x. At many x, take the basis once.
+    #[tactic(auto, using(crate::proofs::BasisLaws::weights_by_is))]
     pub fn weights(self, x: Scalar) -> Row
         ensures { result ≡ weights_of self x }
     {

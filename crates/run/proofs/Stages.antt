@@ -50,7 +50,7 @@ past_stage unknown stage = λ p. absurd p
 
 -- from what the calls answer
 module _ (r : Run) (s : List ℕ) {h : Handler} {c stage : ℕ} (by : h ≡ handler_at (decoded c) stage) (tag : c ≡ code (tag_of s)) (at : stage ≡ stage_of r) where
-  handler_is : h ≡ handler_at (tag_of s) (stage_of r)
+  pub handler_is : h ≡ handler_at (tag_of s) (stage_of r)
   handler_is = by ∙ ap₂ handler_at (ap decoded tag ∙ decoded_code (tag_of s)) at
 
   pub step_by : handled h r s ≡ step_of r s

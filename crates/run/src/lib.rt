@@ -9,7 +9,7 @@ ghost use Rattle.stages.specs.Definitions.{go_number};
 ghost use Rattle.dealing.specs.Definitions.{dealing_number};
 ghost use Rattle.complaint.specs.Definitions.{complaint_number};
 ghost use Rattle.response.specs.Definitions.{response_number};
-ghost use Rattle.run.specs.Runs.{set_challenges, fresh, begun, well_formed, stage_of};
+ghost use Rattle.run.specs.Runs.{set_challenges, set_responses, fresh, begun, well_formed, stage_of};
 ghost use Rattle.run.specs.Steps.{reply_of, answered, after_setup, after_dealing, after_go, after_complaint, after_challenges, after_shifted, finished, after_response, step_of, untaken};
 
 use challenge::Challenges;
@@ -20,9 +20,11 @@ use parameters::{CELLS, PARTIES, PLACES};
 use refusals::Refusal;
 use response::Responses;
 use stages::Handler;
+use verification::Kept;
 
 // The run. b is the signatures of a packed slot, and 0 while a run that was begun by SX waits for GO; m, the number of dealings, is their count.
-// At stage 5 the signatures, each a shifted φ, stand u outer, k inner.
+// At stage 5 the signatures, each a shifted φ, stand u outer, k inner. Anyone may make a run, and each is answered (`stage_of`), so that no ghost field says
+// that it is well formed; the stage is a number, as document 01 has it.
 #[derive(Clone, Copy)]
 pub struct Run {
     pub stage: u8,
@@ -69,6 +71,7 @@ impl Run {
     }
 
     // A fresh run.
+    #[tactic(auto, unfolding(crate::specs::Runs::fresh, lists::specs::Stores::filled, dealing::specs::Definitions::no_setup))]
     pub fn fresh() -> Run
         ensures { result ≡ fresh }
     {
@@ -84,6 +87,7 @@ impl Run {
         )
     }
 
+    #[tactic(auto, unfolding(crate::specs::Runs::well_formed))]
     fn well_formed(&self) -> bool
         ensures { result ≡ well_formed self.now }
     {
@@ -107,6 +111,7 @@ impl Run {
     }
 
     // The stage; past 0, 6 for a run that is not well formed.
+    #[tactic(auto, unfolding(crate::specs::Runs::stage_of))]
     pub fn stage_of(&self) -> u8
         ensures { result ≡ stage_of self.now }
     {
@@ -117,7 +122,7 @@ impl Run {
     }
 
     // SU, or SX, whose run waits.
-    #[tactic(auto, using(refusals::proofs::NumberLaws::number_some))]
+    #[tactic(auto, using(refusals::proofs::NumberLaws::number_some), unfolding(crate::specs::Steps::after_setup, dealing::specs::Definitions::begun_batch, dealing::specs::Definitions::setup_of))]
     fn take_setup(self, waits: bool, bytes: &[u8]) -> Result<Run, Refusal>
         ensures { reply_of self result ≡ answered self (setup_refusal bytes.now) (after_setup waits bytes.now) }
     {
@@ -130,15 +135,14 @@ impl Run {
         Ok(Run::begun(1, b, setup))
     }
 
-    #[tactic(auto, using(refusals::proofs::NumberLaws::number_some))]
+    #[tactic(auto, using(refusals::proofs::NumberLaws::number_some), unfolding(crate::specs::Steps::after_dealing, dealing::specs::Definitions::with_dealing))]
     fn take_dealing(self, bytes: &[u8]) -> Result<Run, Refusal>
         requires { well_formed self ≡ true }
         ensures { reply_of self result ≡ answered self (dealing_number self.setup self.dealings bytes.now) (after_dealing self bytes.now) }
     {
         let setup = self.setup;
-        let old = self.dealings;
-        old.refusal(setup, bytes)?;
-        let dealings = old.with(setup, bytes);
+        self.dealings.refusal(setup, bytes)?;
+        let dealings = self.dealings.with(setup, bytes);
         let mut next = self;
         next.stage = stages::dealing_stage(setup.n, setup.t, dealings.count, self.b);
         next.dealings = dealings;
@@ -159,15 +163,14 @@ impl Run {
     }
 
     // With one more complaint row.
+    #[tactic(auto, unfolding(crate::specs::Steps::after_complaint))]
     fn with_complaint(self, bytes: &[u8]) -> Run
         requires { well_formed self ≡ true }
         ensures { result ≡ after_complaint self bytes.now }
     {
-        let setup = self.setup;
-        let old = self.complaints;
-        let complaints = old.with(setup.n, bytes);
+        let complaints = self.complaints.with(self.setup.n, bytes);
         let mut next = self;
-        next.stage = complaints.stage(setup);
+        next.stage = complaints.stage(self.setup);
         next.complaints = complaints;
         next
     }
@@ -181,7 +184,7 @@ impl Run {
         Ok(self.with_complaint(bytes))
     }
 
-    // At stage 4, with the challenges of a CH or CS.
+    // At stage 4, with the challenges of a CH or CS: what `take_challenges` and `take_shifted` have in common.
     fn challenged(self, challenges: Challenges) -> Run
         ensures { result ≡ set_challenges self 4 challenges }
     {
@@ -195,11 +198,9 @@ impl Run {
     fn take_challenges(self, bytes: &[u8]) -> Result<Run, Refusal>
         ensures { reply_of self result ≡ answered self (challenges_refusal self.setup.a self.b bytes.now) (after_challenges self bytes.now) }
     {
-        let a = self.setup.a;
-        let b = self.b;
+        let (a, b) = (self.setup.a, self.b);
         refusals::challenges_refusal(a, b, bytes)?;
-        let old = self.challenges;
-        let challenges = old.with(a, b, bytes);
+        let challenges = self.challenges.with(a, b, bytes);
         Ok(self.challenged(challenges))
     }
 
@@ -207,45 +208,58 @@ impl Run {
     fn take_shifted(self, bytes: &[u8]) -> Result<Run, Refusal>
         ensures { reply_of self result ≡ answered self (shifted_refusal self.setup.a self.b bytes.now) (after_shifted self bytes.now) }
     {
-        let a = self.setup.a;
-        let b = self.b;
+        let (a, b) = (self.setup.a, self.b);
         refusals::shifted_refusal(a, b, bytes)?;
-        let old = self.challenges;
-        let shifted = old.with_shifted(a, b, bytes);
+        let shifted = self.challenges.with_shifted(a, b, bytes);
         Ok(self.challenged(shifted))
     }
 
-    // Done: every φ is worked out, and shifted.
-    fn finish(self) -> Run
-        requires { (in_bounds self.setup.n self.setup.t self.setup.a ≡ true) × (self.b ≤ self.setup.n) }
-        ensures { result ≡ finished self }
+    // What response rows are tested against.
+    pub fn kept(&self) -> Kept<'_>
+        requires { well_formed self.now ≡ true }
+        ensures setup { result.setup.now ≡ self.now.setup }
+        ensures dealings { result.dealings.now ≡ self.now.dealings }
+        ensures complaints { result.complaints.now ≡ self.now.complaints }
+        ensures challenges { result.challenges.now ≡ self.now.challenges }
+        ensures few { self.now.b ≤ self.now.setup.n }
     {
-        let setup = self.setup;
-        let responses = self.responses;
-        let list = self.signatures;
-        let shift = self.challenges.shift;
-        let signatures = responses.signatures(self.b, setup, shift, list);
-        let mut next = self;
-        next.stage = 5;
-        next.signatures = signatures;
-        next
+        Kept {
+            setup: &self.setup,
+            dealings: &self.dealings,
+            complaints: &self.complaints,
+            challenges: &self.challenges,
+        }
+    }
+
+    // Done, with all the response rows that are needed: every φ is worked out, and shifted.
+    #[tactic(auto, unfolding(crate::specs::Steps::finished))]
+    fn finish(self, responses: Responses) -> Run
+        requires { well_formed self ≡ true }
+        ensures { result ≡ finished (set_responses self 4 responses) }
+    {
+        let signatures = responses.signatures(self.b, &self.kept(), self.signatures);
+        Run {
+            stage: 5,
+            responses: responses,
+            signatures: signatures,
+            ..self
+        }
     }
 
     // With one more response row, and done with the last that is needed.
+    #[tactic(auto, unfolding(crate::specs::Steps::after_response, crate::specs::Steps::with_row))]
     pub fn with_response(self, bytes: &[u8]) -> Run
         requires { well_formed self ≡ true }
         ensures { result ≡ after_response self bytes.now }
     {
-        let setup = self.setup;
-        let old = self.responses;
-        let responses = old.with(self.b, bytes);
+        let responses = self.responses.with(self.b, bytes);
+        let rows = self.responses.count as u16 + 1;
+        if rows == parameters::quorum(self.setup.t, self.setup.a) {
+            return self.finish(responses);
+        }
         let mut next = self;
         next.stage = 4;
         next.responses = responses;
-        let rows = old.count as u16 + 1;
-        if rows == parameters::quorum(setup.t, setup.a) {
-            return next.finish();
-        }
         next
     }
 
@@ -254,16 +268,12 @@ impl Run {
         requires { well_formed self ≡ true }
         ensures { reply_of self result ≡ answered self (response_number self.b self.setup self.dealings self.complaints self.challenges self.responses bytes.now) (after_response self bytes.now) }
     {
-        let setup = self.setup;
-        let dealings = self.dealings;
-        let complaints = self.complaints;
-        let challenges = self.challenges;
-        let old = self.responses;
-        old.refusal(self.b, setup, dealings, complaints, challenges, bytes)?;
+        self.responses.refusal(self.b, &self.kept(), bytes)?;
         Ok(self.with_response(bytes))
     }
 
-    // The refusals that need no response row to be tested, so that the run is not copied: every number but 15.
+    // The refusals that need no response row to be tested, so that the run is not copied: every number but 15, by the match of `step`.
+    #[tactic(auto, using(crate::proofs::Stages::handler_is), unfolding(crate::specs::Steps::untaken, crate::specs::Steps::untaken_by))]
     pub fn untaken(&self, bytes: &[u8]) -> Result<(), Refusal>
         ensures { number_of result ≡ untaken self.now bytes.now }
     {
@@ -289,7 +299,8 @@ impl Run {
         }
     }
 
-    // What a record, any bytes, does to the run.
+    // What a record, any bytes, does to the run: a match on what its tag and the stage pick, the form that document 01 names.
+    #[tactic(auto, using(crate::proofs::Stages::handler_is), unfolding(crate::specs::Steps::step_of, crate::specs::Steps::handled))]
     pub fn step(self, bytes: &[u8]) -> Result<Run, Refusal>
         ensures { reply_of self result ≡ step_of self bytes.now }
     {

@@ -78,7 +78,7 @@ impl Kind {
     }
 }
 
-// The writer's answer to a request of this kind, from its fields and its values.
+// The writer's answer to a request of this kind, from its fields and its values. The four writers take other arguments.
 fn write(kind: Kind, run: Run, s: &[u8], values: &[u32], out: &mut [u8]) -> Result<(), Refusal> {
     let first = records::byte(s, 0);
     let second = records::byte(s, 1);
@@ -125,7 +125,7 @@ fn answer_fields(
     load(&s[from..end], values);
     streams::fill(out);
     let written = write(kind, run, s, values, out);
-    streams::answer(rt, refusals::number_of(written), out);
+    streams::answer(rt, refusals::number_of(&written), out);
     Some(())
 }
 
@@ -148,6 +148,7 @@ fn answer(
 // Answers every request of a stream, up to one that is cut.
 fn answer_all(rt: &impl Print, s: &[u8], list: &mut [u32; MOST], buffer: &mut [u8; MOST]) {
     let mut rest = s;
+    // a request says itself how long it is
     while !rest.is_empty() {
         let Some((request, next)) = streams::split_part(rest) else {
             streams::answer_broken(rt);

@@ -23,6 +23,7 @@ pub fn has(mask: u64, i: u8) -> bool
 }
 
 // The set with party `i`, if there is such a party.
+#[tactic(auto, unfolding(crate::specs::Masks::insert))]
 pub fn insert(mask: u64, i: u8) -> u64
     ensures { result ≡ insert mask i }
 {
@@ -43,6 +44,7 @@ pub fn union(a: u64, b: u64) -> u64
 }
 
 // The parties of `a` that are not in `b`.
+#[tactic(auto, unfolding(crate::specs::Masks::minus))]
 pub fn minus(a: u64, b: u64) -> u64
     ensures { result ≡ minus a b }
 {

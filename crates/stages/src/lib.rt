@@ -23,7 +23,7 @@ pub enum Handler {
     Refuse(Refusal),
 }
 
-// Each tag is taken at one stage only.
+// Each tag is taken at one stage only: a match over tag codes and stage numbers, the form that document 01 names.
 #[tactic(auto, unfolding(crate::specs::Definitions::handler_at, crate::specs::Definitions::at_stage, crate::specs::Definitions::taken_at, records::specs::Tags::decoded))]
 pub fn taken_by(tag: u8, stage: u8) -> Handler
     ensures { result ≡ handler_at (decoded tag) stage }
@@ -85,6 +85,7 @@ pub fn go_refusal(n: u8, t: u8, m: u8, b: u8, bytes: &[u8]) -> Result<(), Refusa
 }
 
 // The stage that m dealings bring: 1 in a run that waits, whose b is not fixed yet; else 2 after n-t of them.
+#[tactic(auto, unfolding(crate::specs::Definitions::dealing_stage))]
 pub fn dealing_stage(n: u8, t: u8, m: u8, b: u8) -> u8
     requires { t ≤ n }
     ensures { result ≡ dealing_stage n t m b }

@@ -3,6 +3,7 @@
 
 ghost use Rattle.std.specs.Prelude.{◌≡◌, ◌↔◌, ◌+◌, ◌<◌, ◌≤◌, ◌++◌, length, take, IfSome, IsSome};
 ghost use Rattle.records.specs.Bytes.{number_at};
+ghost use Rattle.reader.specs.Cutting.{run_of};
 
 use reader::LONGEST;
 use run::Run;
@@ -36,16 +37,11 @@ pub fn fill(out: &mut [u8]) {
     out.fill(FILLER);
 }
 
-// A byte as two digits of base sixteen.
-fn print_byte(rt: &impl Print, byte: u8) {
-    console::print_hex(rt, byte);
-}
-
 // The line of an answer: its number, and the buffer.
 pub fn answer(rt: &impl Print, number: u8, out: &[u8]) {
     console::print_number(rt, number as u64);
     for &byte in out {
-        print_byte(rt, byte);
+        console::print_hex(rt, byte);
     }
     console::end_line(rt);
 }
@@ -56,19 +52,16 @@ pub fn answer_broken(rt: &impl Print) {
 }
 
 // The run after a log.
-pub fn run_of(log: &[u8]) -> Run {
+pub fn run_of(log: &[u8]) -> Run
+    ensures { result ≡ run_of log.now }
+{
     let mut run = Run::fresh();
-    let mut from: usize = 0;
-    let turns: usize = LONGEST;
-    for _ in 0..turns {
-        if from < log.len() {
-            let rest = &log[from..];
-            let size = reader::next_length(run, rest);
-            if size <= rest.len() {
-                run = run.step(&rest[..size]).unwrap_or(run);
-                from += size;
-            }
-        }
+    let mut rest = log;
+    // how long a record is, is known only from what is left
+    while 0 < rest.len() {
+        let (record, next) = rest.split_at(reader::next_length(&run, rest));
+        reader::give_record(&mut run, record);
+        rest = next;
     }
     run
 }

@@ -1,6 +1,9 @@
 -- The bytes that records count: a whole record its length, so a list of whole ones their summed lengths. Assumes nothing.
-use Rattle.std.specs.Prelude.{◌≡◌, refl, Bool, true, false, ◌⊎◌, ◌≢◌, List, [], ◌∷◌, ◌++◌, ℕ, zero, suc, ◌+◌, ◌≤◌, ◌<◌, length, take, drop, get_or, eqb, leb}
-use Rattle.std.proofs.Common.{sym, ap, ap₂, ◌∙◌, inl, inr, ⊎_elim, arith, length-drop, length-take-le, get_or-take, le-leb, leb-true}
+use Rattle.std.specs.Prelude.{◌≡◌, refl, Bool, true, false, Option, Some, None, unwrap_or, ◌⊎◌, ◌≢◌, List, [], ◌∷◌, ◌++◌, ℕ, zero, suc, ◌+◌, ◌≤◌, ◌<◌, length, take, drop, get_or, eqb, leb}
+use Rattle.std.proofs.Common.{sym, ap, ap₂, ◌∙◌, inl, inr, ⊎_elim, arith, length-drop, length-take-le, get_or-take, le-leb, leb-true, eqb-true}
+use Rattle.std.specs.Bool.{then_some}
+use Rattle.std.specs.Option.{MatchOption}
+use Rattle.std.proofs.lemmas.Option.{MatchOption-at_none, MatchOption-at_some}
 use Rattle.lists.specs.Tests.{pick}
 use Rattle.lists.specs.TestLaws.{pick_case}
 use Rattle.records.specs.Bytes.{byte_at}
@@ -9,7 +12,7 @@ use Rattle.run.specs.declared.Run.{Run}
 use Rattle.run.specs.Steps.{Reply}
 use Rattle.run.specs.Runs.{fresh}
 use Rattle.run.specs.Steps.{step_of, refused, after_from}
-use Rattle.reader.specs.Cutting.{own_length, length_at, length_of}
+use Rattle.reader.specs.Cutting.{some_length, own_length, length_at, length_of}
 use Rattle.reader.specs.Turns.{next_length, next_record, next_rest, records_from, Whole, takes, BeforeSetup, BeforeGo, Cut}
 use Rattle.reader.proofs.TurnLaws.{next_pos, next_max, tag_alone, records_none}
 use Rattle.reader.proofs.LengthLaws.{least_at, empty_or}
@@ -29,6 +32,22 @@ counted_max passed s =
 pub counted_full : (passed : ℕ) (s : List ℕ) (k : ℕ) → fixed_length passed s ≡ k → k ≤ length s → counted_by passed s ≡ k
 unfolding counted_by
 counted_full passed s k e l = rw (e, le-leb k (length s) l)
+
+-- the code takes a length that it has where no more bytes are asked than there are
+pub counted_if : {P : ℕ → Bool → Type 0} (o kept : Option ℕ) (k size : ℕ) → o ≡ some_length k
+    → MatchOption o (kept ≡ None) (λ n. (b : Bool) × P n b × (kept ≡ then_some b n)) → ((n : ℕ) (b : Bool) → P n b → b ≡ leb n size) → unwrap_or kept 0 ≡ pick (leb k size) k 0
+unfolding some_length
+counted_if {P} o kept k size e m h = go (eqb k 0) refl
+  where
+    go : (c : Bool) → eqb k 0 ≡ c → unwrap_or kept 0 ≡ pick (leb k size) k 0
+    go true z = rw (eqb-true k 0 z, le-leb 0 size (omega arith)) (ap (λ (r : Option ℕ). unwrap_or r 0) (MatchOption-at_none (kept ≡ None) _ (e ∙ ap (λ (c : Bool). pick c None (Some k)) z) m))
+    go false z =
+        let asked = MatchOption-at_some (kept ≡ None) _ k (e ∙ ap (λ (c : Bool). pick c None (Some k)) z) m in
+        rw (asked.2, h k asked.0 asked.1) (either (leb k size))
+      where
+        either : (b : Bool) → unwrap_or (then_some b k) 0 ≡ pick b k 0
+        either true = refl
+        either false = refl
 
 -- ---- a whole record
 

@@ -2,16 +2,17 @@
 use mathlib.Core.Path.{◌≡◌, sym, ap, subst⁻¹, ◌∙◌}
 use mathlib.Core.Bool.{true, false}
 use mathlib.Core.List.{List, []}
-use Prim.Native.Nat.{ℕ, ◌+◌, ◌≤◌, ◌<◌}
+use Prim.Native.Nat.{ℕ, ◌+◌, ◌-◌, ◌≤◌, ◌<◌}
 use native.Mathlib.Omega.{arith}
-use lib.ListN.{length, drop, length-drop, drop_of_length-le}
+use lib.ListN.{length, take, drop, length-drop, drop_of_length-le}
 use lib.Seq.{drop-drop, length-take-le}
 use Rattle.run.specs.declared.Run.{Run}
 use Rattle.run.specs.Runs.{fresh}
 use Rattle.run.specs.Steps.{step_of, after_from, after}
+use Rattle.bundle.proofs.CutLaws.{left_is}
 use Rattle.reader.specs.Cutting.{length_of}
 use Rattle.reader.specs.Turns.{next_length, next_record}
-use Rattle.reader.proofs.TurnLaws.{next_max}
+use Rattle.reader.proofs.TurnLaws.{next_max, next_pos}
 use Rattle.summary.specs.Consumed.{settled, read_of, counted_length, counted_from, consumed}
 use Rattle.summary.proofs.ReadLaws.{read_from, read_start, read_none, read_settled, read_next}
 use Rattle.summary.proofs.CountLaws.{counted_max}
@@ -58,6 +59,19 @@ module _ {log : List ℕ} {r : Run} {from bytes : ℕ} (h : Reading log r from b
               h.counted,
             );
       }
+
+  -- the same with what stands in the code's variables, where the rest is lent
+  pub reading_turn : {run : Run} {length' counted' : ℕ} → from < length log → settled r ≡ false →
+      let s = take (length log - from) (drop from log) in
+      run ≡ (step_of r (next_record r s)).run → length' ≡ next_length r s → counted' ≡ counted_length r (next_record r s)
+      → (0 < length') × Reading log run (from + length') (bytes + counted')
+  reading_turn l e er el ec =
+      let s = drop from log in
+      let same = left_is log from in
+      let size = el ∙ ap (next_length r) same in (
+        omega (arith, size, next_pos r s (omega (arith, length-drop from log))),
+        rw (er ∙ ap (λ (t : List ℕ). (step_of r (next_record r t)).run) same, size, ec ∙ ap (λ (t : List ℕ). counted_length r (next_record r t)) same) (reading_next l e),
+      )
 
   -- the end: nothing more is read
   reading_end : read_from r (drop from log) ≡ [] → (r ≡ after (read_of log)) × (bytes ≡ consumed log)

@@ -1,9 +1,11 @@
 // Reads numbers of parties with masks on standard input, and prints for each how large the set is. docs/FORMATS.md says what stands where.
 #![tactic(auto)]
 
-ghost use Rattle.std.specs.Prelude.{◌+◌, ◌≤◌, length};
+ghost use Rattle.std.specs.Prelude.{◌≡◌, ◌+◌, ◌≤◌, length};
+ghost use Rattle.text.specs.Texts.{Room};
 
 use std::io::Print;
+use text::Page;
 
 // The bytes of an entry: the number of parties, and the mask.
 const ENTRY: usize = 9;
@@ -25,32 +27,32 @@ fn mask_of(entry: &[u8]) -> u64 {
 }
 
 // The line of an entry.
-fn put_entry(out: &mut [u8], at: usize, entry: &[u8]) -> usize
-    requires { at + 39 ≤ length out.old }
-    ensures { result ≤ at + 39 }
+fn put_entry(page: &mut Page, entry: &[u8])
+    requires { Room page.old 39 }
+    ensures buffer { page.new.out.ghost_name ≡ page.old.out.ghost_name }
+    ensures room { (length page.new.out.now ≡ length page.old.out.now) × (page.new.len ≤ page.old.len + 39) }
 {
     let n = records::byte(entry, 0);
     let mask = mask_of(entry);
     let bits = sets::bits_set(mask) as u32;
     let size = sets::size(mask, n) as u32;
-    text::put_line(out, at, b"count", &[bits, size, sizes(mask, n)])
+    page.put_line(b"count", &[bits, size, sizes(mask, n)]);
 }
 
 // The lines of a stream.
-fn put_entries(s: &[u8], out: &mut [u8; LINES]) -> usize
-    requires { length s.now ≤ 65536 }
-    ensures { result ≤ 284000 }
+fn put_entries(page: &mut Page, s: &[u8])
+    requires { (length s.now ≤ 65536) × Room page.old 284000 }
+    ensures buffer { page.new.out.ghost_name ≡ page.old.out.ghost_name }
+    ensures room { (length page.new.out.now ≡ length page.old.out.now) × (page.new.len ≤ page.old.len + 284000) }
 {
     let entries = s.chunks_exact(ENTRY);
     let rest = entries.remainder();
-    let mut next: usize = 0;
     for entry in entries {
-        next = put_entry(out, next, entry);
+        put_entry(page, entry);
     }
-    if rest.is_empty() {
-        return next;
+    if !rest.is_empty() {
+        page.put_text(b"broken\n");
     }
-    text::put_text(out, next, b"broken\n")
 }
 
 // Prints the lines of a stream.
@@ -58,7 +60,9 @@ fn tell(rt: &impl Print, s: &[u8])
     requires { length s.now ≤ 65536 }
 {
     let mut lines = [0u8; LINES];
-    let size = put_entries(s, &mut lines);
+    let mut page = Page::of(&mut lines);
+    put_entries(&mut page, s);
+    let size = page.len;
     console::print_bytes(rt, &lines[..size]);
 }
 

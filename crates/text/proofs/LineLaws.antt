@@ -5,8 +5,9 @@ use Rattle.lists.specs.Tests.{pick}
 use Rattle.lists.specs.TestLaws.{pick_case}
 use Rattle.sets.specs.Masks.{has, members}
 use Rattle.sets.proofs.MemberLaws.{count_le}
-use Rattle.text.specs.Texts.{Wrote}
-use Rattle.text.proofs.TextLaws.{wrote_length}
+use Rattle.text.specs.declared.Page.{Page}
+use Rattle.text.specs.Texts.{Added}
+use Rattle.text.proofs.TextLaws.{added_length}
 use Rattle.text.specs.Lines.{space, dash, nought, decimal_to, decimal, field, fields, line, set_text, set_line}
 
 -- ---- decimals
@@ -71,17 +72,26 @@ fields_snoc (m ∷ l) n = rw (fields_snoc l n) (sym (append_assoc (field m) (fie
 pub fields_take : (l : List ℕ) (i : ℕ) → i < length l → fields (take (i + 1) l) ≡ fields (take i l) ++ field (get_or l i 0)
 fields_take l i h = rw (add-one i, take-suc l i 0 h) (fields_snoc (take i l) (get_or l i 0))
 
--- after a word and the first x fields the buffer is as long as it was, and the place has gone on by at most 11 for each
-pub fields_room : {l m k : List ℕ} {i j n : ℕ} {word : List ℕ} (numbers : List ℕ) (x : ℕ) → Wrote l m i j word → Wrote m k j n (fields (take x numbers))
-    → (length k ≡ length l) × (n ≤ i + length word + 11 * x)
-fields_room {l} {m} {k} {i} {j} {n} {word} numbers x v w = (
-  wrote_length w ∙ wrote_length v,
-  omega (arith, v.place, w.place, fields_max (take x numbers), length-take x numbers),
+-- after a word and the first x fields the buffer is as long as it was, and the page has grown by at most 11 for each
+pub fields_room : {p q r : Page} {word : List ℕ} (numbers : List ℕ) (x : ℕ) → Added p q word → Added q r (fields (take x numbers))
+    → (length r.out.now ≡ length p.out.now) × (r.len ≤ p.len + length word + 11 * x)
+fields_room numbers x a b = (
+  added_length b ∙ added_length a,
+  omega (arith, a.wrote.place, b.wrote.place, fields_max (take x numbers), length-take x numbers),
 )
 
 pub line_max : (word l : List ℕ) → length (line word l) ≤ length word + 11 * length l + 1
 unfolding line
 line_max word l = simp length-append (omega (arith, fields_max l))
+
+-- where it ends at most
+pub line_place : {p q : Page} (word l : List ℕ) → Added p q (line word l) → q.len ≤ p.len + (length word + 11 * length l + 1)
+line_place word l a = omega (arith, a.wrote.place, line_max word l)
+
+-- it has at least its line feed
+pub line_some : (word l : List ℕ) → 0 < length (line word l)
+unfolding line
+line_some word l = simp length-append (omega arith)
 
 -- ---- sets
 
@@ -105,6 +115,22 @@ pub set_line_max : (word : List ℕ) (n mask : ℕ) → length (set_line word n 
 unfolding set_line
 set_line_max word n mask = simp length-append (omega (arith, set_text_max (members n (has mask)), count_le n (has mask)))
 
+-- after a name and the fields of the members to x likewise
+pub members_room : {p q r : Page} {name : List ℕ} (mask x : ℕ) → Added p q name → Added q r (fields (members x (has mask)))
+    → (length r.out.now ≡ length p.out.now) × (r.len ≤ p.len + length name + 11 * x)
+members_room mask x a b = (
+  added_length b ∙ added_length a,
+  omega (arith, a.wrote.place, b.wrote.place, fields_max (members x (has mask)), count_le x (has mask)),
+)
+
+-- and after a name and the set's text
+pub set_room : {p q r : Page} {name : List ℕ} (n mask : ℕ) → Added p q name → Added q r (set_text (members n (has mask)))
+    → (length r.out.now ≡ length p.out.now) × (r.len ≤ p.len + length name + 11 * n + 2)
+set_room n mask a b = (
+  added_length b ∙ added_length a,
+  omega (arith, a.wrote.place, b.wrote.place, set_text_max (members n (has mask)), count_le n (has mask)),
+)
+
 -- where the line of a set ends at most
-pub set_place : {l m : List ℕ} {i j : ℕ} (word : List ℕ) (n mask : ℕ) → Wrote l m i j (set_line word n mask) → j ≤ i + (length word + 11 * n + 3)
-set_place word n mask w = omega (arith, w.place, set_line_max word n mask)
+pub set_place : {p q : Page} (name : List ℕ) (n mask : ℕ) → Added p q (set_line name n mask) → q.len ≤ p.len + (length name + 11 * n + 3)
+set_place name n mask a = omega (arith, a.wrote.place, set_line_max name n mask)

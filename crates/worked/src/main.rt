@@ -171,10 +171,6 @@ fn scalars(rt: &impl Print) {
     end_line(rt);
 }
 
-fn print_scalar(rt: &impl Print, x: Scalar) {
-    print_number(rt, x.0 as u64);
-}
-
 // (I): 4 and P-1 as elements; (J): the inverse of 2; (K): the weights of the points 2 and 3 at 0.
 fn arithmetic(rt: &impl Print) {
     print_bytes(rt, b"I ");
@@ -182,7 +178,7 @@ fn arithmetic(rt: &impl Print) {
     print_test(rt, Element::read(Element::MODULUS - 1).is_element());
     end_line(rt);
     print_bytes(rt, b"J ");
-    print_scalar(rt, Scalar(2).inverse());
+    print_number(rt, Scalar(2).inverse().0 as u64);
     end_line(rt);
     print_bytes(rt, b"K ");
     let mut points = [Scalar::ZERO; 64];
@@ -193,8 +189,8 @@ fn arithmetic(rt: &impl Print) {
         count: 2,
     }
     .weights(Scalar::ZERO);
-    print_scalar(rt, weights.at[0]);
-    print_scalar(rt, weights.at[1]);
+    print_number(rt, weights.at[0].0 as u64);
+    print_number(rt, weights.at[1].0 as u64);
     end_line(rt);
 }
 

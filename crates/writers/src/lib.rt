@@ -2,7 +2,6 @@
 #![tactic(auto)]
 
 ghost use Rattle.std.specs.Prelude.{◌≡◌, true, not, ◌||◌, ◌+◌, ◌*◌, ◌≤◌, length, get_or, eqb};
-ghost use Rattle.std.proofs.lemmas.List.Edits.{sets};
 ghost use Rattle.lists.specs.Tests.{pick, all_to};
 ghost use Rattle.sets.specs.Masks.{has, mask_of};
 ghost use Rattle.field.specs.Definitions.{is_scalar};
@@ -22,20 +21,17 @@ fn wrong_dealers(run: Run, j: u8) -> u64
     requires { run.setup.n ≤ most_parties }
     ensures { result ≡ mask_of run.setup.n (may_blame run.dealings j) }
 {
-    let n = run.setup.n;
-    let dealers = run.dealings.dealers;
     let mut mask: u64 = 0;
-    for (i, &wrong) in run.dealings.wrong[..n as usize].iter().enumerate() {
-        let dealer = i as u8 + 1;
-        if sets::has(dealers, dealer) {
-            if sets::has(wrong, j) {
-                mask = sets::insert(mask, dealer);
-            }
+    for i in 0..run.setup.n {
+        let dealer = i + 1;
+        if run.dealings.may_blame(j, dealer) {
+            mask = sets::insert(mask, dealer);
         }
     }
     mask
 }
 
+#[tactic(auto, unfolding(crate::specs::Writers::complaint_refused, lists::specs::Tests::require))]
 fn complaint_refused(run: Run, j: u8, room: usize) -> Result<(), Refusal>
     ensures { number_of result ≡ complaint_refused run j room }
 {
@@ -59,11 +55,9 @@ pub fn write_complaint(run: Run, j: u8, out: &mut [u8]) -> Result<(), Refusal>
 {
     complaint_refused(run, j, out.len())?;
     let mask = wrong_dealers(run, j);
-    out[0] = b'V';
-    out[1] = b'E';
-    out[2] = j;
-    out[3] = 0;
-    encoding::put_bytes(out, 4, records::mask_width(run.setup.n), mask);
+    let (head, blamed) = out.split_at_mut(4);
+    head.copy_from_slice(&[b'V', b'E', j, 0]);
+    encoding::put_bytes(blamed, mask);
     Ok(())
 }
 
@@ -71,11 +65,7 @@ pub fn write_complaint(run: Run, j: u8, out: &mut [u8]) -> Result<(), Refusal>
 fn share_in_range(qual: u64, i: u8, share: u32) -> bool
     ensures { result ≡ (not (has qual i) || is_scalar share) }
 {
-    if sets::has(qual, i) {
-        Scalar::accepts(share)
-    } else {
-        true
-    }
+    !sets::has(qual, i) || Scalar::accepts(share)
 }
 
 // Whether the shares of QUAL are scalars.
@@ -83,15 +73,14 @@ fn shares_in_range(qual: u64, n: u8, shares: &[u32]) -> bool
     requires { length shares.now ≡ n }
     ensures { result ≡ all_to n (λ i. not (has qual (i + 1)) || is_scalar (get_or shares.now i 0)) }
 {
-    for (i, &share) in shares[..n as usize].iter().enumerate() {
-        if !share_in_range(qual, i as u8 + 1, share) {
-            return false;
-        }
-    }
-    true
+    shares
+        .iter()
+        .enumerate()
+        .all(|(i, &share)| share_in_range(qual, i as u8 + 1, share))
 }
 
 // The refusal of F(j) and the shares.
+#[tactic(auto, unfolding(crate::specs::Writers::shares_refused, lists::specs::Tests::require))]
 fn shares_refused(run: Run, key: u32, shares: &[u32], room: usize) -> Result<(), Refusal>
     ensures { number_of result ≡ shares_refused run key shares.now room }
 {
@@ -111,6 +100,7 @@ fn shares_refused(run: Run, key: u32, shares: &[u32], room: usize) -> Result<(),
     Ok(())
 }
 
+#[tactic(auto, unfolding(crate::specs::Writers::response_refused, lists::specs::Tests::require))]
 fn response_refused(run: Run, j: u8, key: u32, shares: &[u32], room: usize) -> Result<(), Refusal>
     ensures { number_of result ≡ response_refused run j key shares.now room }
 {
@@ -133,7 +123,7 @@ fn combined_share(qual: u64, n: u8, shares: &[u32], u: u8) -> Scalar
     ensures { result ≡ combined_share n (has qual) shares.now u }
 {
     let mut sum = Scalar::ZERO;
-    for (i, &share) in shares[..n as usize].iter().enumerate() {
+    for (i, &share) in shares.iter().enumerate() {
         let dealer = i as u8 + 1;
         if sets::has(qual, dealer) {
             sum = sum.add(combination::coefficient(dealer, u).mul(Scalar(share)));
@@ -144,21 +134,19 @@ fn combined_share(qual: u64, n: u8, shares: &[u32], u: u8) -> Scalar
 
 // The response numbers of j for 1 to b.
 fn put_responses(out: &mut [u8], run: Run, j: u8, key: u32, shares: &[u32])
-    requires { (well_formed run ≡ true) × (length shares.now ≡ run.setup.n) × (4 + 4 * run.b ≤ length out.old) }
-    ensures { out.new ≡ sets out.old 4 (fours run.b (λ u. (response_for run j key shares.now (u + 1)).0)) }
+    requires { (well_formed run ≡ true) × (length shares.now ≡ run.setup.n) × (length out.old ≡ 4 * run.b) }
+    ensures { out.new ≡ fours run.b (λ u. (response_for run j key shares.now (u + 1)).0) }
 {
     let n = run.setup.n;
     let a = run.setup.a;
-    let count = run.b;
     let qual = answers::unblamed(run);
     let challenges = run.challenges.numbers;
     let weights = points::slot_points(a).weights(points::point(j, 0));
-    for u in 0..count {
-        let share = combined_share(qual, n, shares, u + 1);
-        let challenge = weights.sum(arrays::challenge_values(challenges, a, u + 1));
-        let number = share.add(challenge.mul(Scalar(key)));
-        encoding::put(out, 4 + 4 * u as usize, number.0);
-    }
+    encoding::put_each(out, run.b, |u| {
+        let share = combined_share(qual, n, shares, u);
+        let challenge = weights.sum(arrays::challenge_values(challenges, a, u));
+        share.add(challenge.mul(Scalar(key))).0
+    });
 }
 
 // RE, from a run, j, F(j) and n shares by dealer number.
@@ -173,10 +161,8 @@ pub fn write_response(
     ensures bytes { out.new ≡ pick (eqb (number_of result) 0) (response_bytes run j key shares.now) out.old }
 {
     response_refused(run, j, key, shares, out.len())?;
-    out[0] = b'R';
-    out[1] = b'E';
-    out[2] = j;
-    out[3] = 0;
-    put_responses(out, run, j, key, shares);
+    let (head, numbers) = out.split_at_mut(4);
+    head.copy_from_slice(&[b'R', b'E', j, 0]);
+    put_responses(numbers, run, j, key, shares);
     Ok(())
 }

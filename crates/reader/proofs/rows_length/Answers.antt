@@ -1,8 +1,7 @@
 -- `rows_length` meets its contract. Assumes nothing.
 use native.Mathlib.Nat.{mul-le-mul}
 use native.Mathlib.Omega.{arith}
-use mathlib.Core.Path.{◌≡◌, ap}
-use Prim.Native.Nat.{ℕ, ◌*◌, ◌≤◌}
+use Prim.Native.Nat.{◌*◌, ◌≤◌}
 use Rattle.records.specs.Tags.{response_length}
 use Rattle.reader.proofs.rows_length.Goals as goal
 
@@ -13,15 +12,3 @@ overflow_mul-whole c =
     let row : c.response_length.result ≤ 1024 = omega (arith, c.response_length.ensures) in
     let most : a.rows * c.response_length.result ≤ 256 * 1024 = mul-le-mul c.requires row in
     omega arith
-
-pub returns-then-left-whole : goal.returns-then-left-whole
-returns-then-left-whole c =
-    let a = c.args in
-    let whole : a.rows * c.response_length.result ≡ a.rows * response_length a.b = ap (λ (k : ℕ). a.rows * k) c.response_length.ensures in
-    omega (arith, c.if-left-whole.true)
-
-pub returns-else-left-whole : goal.returns-else-left-whole
-returns-else-left-whole c =
-    let a = c.args in
-    let whole : a.rows * c.response_length.result ≡ a.rows * response_length a.b = ap (λ (k : ℕ). a.rows * k) c.response_length.ensures in
-    omega (arith, c.if-left-whole.false)

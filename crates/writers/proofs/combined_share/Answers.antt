@@ -4,8 +4,7 @@ use mathlib.Core.Bool.{Bool}
 use mathlib.Core.List.{List}
 use Prim.Native.Nat.{ℕ, ◌+◌}
 use native.Mathlib.Omega.{arith}
-use lib.ListN.{take, get_or, length-take}
-use Rattle.std.proofs.Common.{get_or-take}
+use lib.ListN.{get_or}
 use Rattle.algebra.specs.FoldLaws.{fold_zero, fold_next, fold_keeps}
 use Rattle.lists.specs.Tests.{pick}
 use Rattle.lists.specs.TestLaws.{pick_case}
@@ -45,11 +44,10 @@ loop-i-preserved c =
     let l = c.loop-i in
     let a = c.args in
     let member : c.has.result ≡ has a.qual (l.i + 1) = c.has.ensures in
-    let share : get_or (take a.n a.shares.now) l.i 0 ≡ get_or a.shares.now l.i 0 = get_or-take a.n a.shares.now l.i 0 (omega (arith, length-take a.n a.shares.now)) in
     let more = next (has a.qual) a.shares.now a.u l.i in
     elim c.if-has.branch [
       | then-has w ↦
-          w.sum-is ∙ w.add-sum.ensures ∙ rw (l.invariant, w.mul.ensures, w.coefficient.ensures, share) (sym (rw (sym member ∙ w.if-has.true) at more))
+          w.sum-is ∙ w.add-sum.ensures ∙ rw (l.invariant, w.mul.ensures, w.coefficient.ensures) (sym (rw (sym member ∙ w.if-has.true) at more))
       | else-has w ↦
           w.sum-is ∙ l.invariant ∙ sym ((rw (sym member ∙ w.if-has.false) at more) ∙ plus_zero _ (sum_range (has a.qual) a.shares.now a.u l.i))
     ]
@@ -57,5 +55,5 @@ loop-i-preserved c =
 pub returns : goal.returns
 returns c =
     let l = c.loop-i in
-    let end : l.i ≡ c.args.n = omega (arith, c.requires, length-take c.args.n c.args.shares.now) in
+    let end : l.i ≡ c.args.n = omega (arith, c.requires) in
     rw end at l.invariant

@@ -1,34 +1,30 @@
--- `shares_in_range` meets its contract. Every share below i is a scalar or is not read. Assumes nothing.
-use Rattle.std.proofs.Common.{◌≡◌, ◌∙◌, ap, arith, not, Bool, List, ℕ, ◌+◌, ◌<◌, length, take, get_or, length-take, get_or-take}
+-- `shares_in_range` meets its contract: each share is asked with its dealer's number. Assumes nothing.
+use Rattle.std.proofs.Common.{◌≡◌, ◌∙◌, ap, rules, List, ℕ, ◌+◌, Bool, not, true, false, length, get_or, zero-add, arith}
 use mathlib.Core.Bool.{◌||◌}
-use Rattle.lists.specs.CallLaws.{asked_none, asked_more, asked_fails, asked_all}
+use borrow.Author.Tests.{tests}
+use Rattle.std.specs.List.{enumerate_from}
+use Rattle.std.proofs.lemmas.Iterator.{cases_from_all, YieldsList-from_slice}
+use Rattle.std.proofs.lemmas.Iterator.Consumers.{YieldsList-from_enumerate}
+use Rattle.std.proofs.lemmas.List.FromFn.{length-enumerate_from, get_or-enumerate_from}
+use Rattle.lists.specs.AllLaws.{all_of}
+use Rattle.lists.specs.Tests.{all_to}
+use Rattle.lists.specs.TestLaws.{all_cong}
 use Rattle.sets.specs.Masks.{has}
 use Rattle.field.specs.Definitions.{is_scalar}
 use Rattle.writers.proofs.shares_in_range.Goals as goal
 
--- what is asked of the share at place i of the first n
-asked : {b : Bool} (qual n i : ℕ) (shares : List ℕ) → i < length (take n shares)
-    → b ≡ (not (has qual (i + 1)) || is_scalar (get_or (take n shares) i 0))
-    → b ≡ (not (has qual (i + 1)) || is_scalar (get_or shares i 0))
-asked qual n i shares l e =
-    e ∙ ap (λ (x : ℕ). not (has qual (i + 1)) || is_scalar x) (get_or-take n shares i 0 (omega (arith, l, length-take n shares)))
-
-pub loop-i-init : goal.loop-i-init
-loop-i-init c = asked_none _ _
-
-pub returns-then-not-share_in_range : goal.returns-then-not-share_in_range
-returns-then-not-share_in_range c =
-    let a = c.args in
-    let i : ℕ = c.loop-i.i in
-    asked_fails (λ k. not (has a.qual (k + 1)) || is_scalar (get_or a.shares.now k 0)) a.n i (asked a.qual a.n i a.shares.now (omega arith) c.share_in_range.ensures)
-    (ap not c.if-not-share_in_range.true) (omega (arith, length-take a.n a.shares.now))
-
-pub loop-i-preserved : goal.loop-i-preserved
-loop-i-preserved c =
-    let a = c.args in
-    let l = c.loop-i in
-    asked_more _ _ _ l.invariant (asked a.qual a.n l.i a.shares.now (omega arith) c.share_in_range.ensures)
-    (ap not c.if-not-share_in_range.false) (omega (arith, length-take a.n a.shares.now))
+-- a test of the items of a list with their places
+all_placed : (fits : ℕ × ℕ → Bool) (l : List ℕ) (n : ℕ) → length l ≡ n
+    → all_to (length (enumerate_from 0 l)) (λ i. fits (get_or (enumerate_from 0 l) i (0, 0))) ≡ all_to n (λ i. fits (i, get_or l i 0))
+all_placed fits l n e =
+    let placed : List (ℕ × ℕ) = enumerate_from 0 l in
+    ap (λ (m : ℕ). all_to m (λ i. fits (get_or placed i (0, 0)))) (length-enumerate_from 0 l ∙ e)
+    ∙ all_cong n _ _ (λ i c. ap fits (get_or-enumerate_from 0 l i (0, 0) (omega (arith, e)) ∙ ap (λ (k : ℕ). (k, get_or l i 0)) (zero-add i)))
 
 pub returns : goal.returns
-returns c = asked_all _ _ _ c.loop-i.invariant (omega (arith, c.requires, length-take c.args.n c.args.shares.now))
+returns c =
+    let a = c.args in
+    let fits : ℕ × ℕ → Bool = λ p. not (has a.qual (p.0 + 1)) || is_scalar p.1 in
+    all_of fits (0, 0) (enumerate_from 0 a.shares.now) c.all.result
+    (cases_from_all _ _ c.all.result (λ p. fits p ≡ true) (λ p. fits p ≡ false) c.all.ensures.ran (YieldsList-from_enumerate (YieldsList-from_slice a.shares.now (cc)) (cc)) (λ x q k. search (rules, tests)) (λ x q k. search (rules, tests)))
+    ∙ all_placed fits a.shares.now a.n c.requires

@@ -1,15 +1,8 @@
--- `write_response` meets its contract: on a refusal nothing is stored, else the stores are the record. Assumes nothing.
-use mathlib.Core.Path.{◌≡◌, sym, ◌∙◌}
-use mathlib.Core.List.{List, [], ◌∷◌}
-use Prim.Native.Nat.{ℕ, ◌+◌, ◌*◌}
-use native.Mathlib.Omega.{arith}
-use lib.ListN.{length-set}
-use Rattle.records.specs.Tags.{letter_e, letter_r, response_length}
-use Rattle.encoding.specs.Bytes.{fours}
-use Rattle.encoding.proofs.ByteLaws.{length_fours}
-use Rattle.encoding.proofs.StoreLaws.{sets_whole}
+-- `write_response` meets its contract: where nothing is refused the parts of the buffer are those of the record. Assumes nothing.
+use Rattle.std.proofs.Common.{◌≡◌, List, ℕ, ◌+◌, ◌*◌, sym, arith}
+use Rattle.records.specs.Tags.{response_length}
 use Rattle.run.specs.declared.Run.{Run}
-use Rattle.writers.specs.Writers.{response_refused, response_for, response_bytes}
+use Rattle.writers.specs.Writers.{response_refused, response_bytes}
 use Rattle.writers.proofs.WriterLaws.{ResponseFits, response_fits}
 use Rattle.writers.proofs.write_response.Goals as goal
 
@@ -21,31 +14,15 @@ room : (r : Run) (j key : ℕ) (l : List ℕ) (size : ℕ) → 0 ≡ response_re
 unfolding response_length
 room r j key l size e = (known r j key l size e).exact
 
-pub bounds-out-0 : goal.bounds-out-0
-bounds-out-0 c = omega (arith, room _ _ _ _ _ c.in_ok-response_refused.ensures)
-
-pub bounds-out-1 : goal.bounds-out-1
-bounds-out-1 c = simp length-set (omega (arith, room _ _ _ _ _ c.in_ok-response_refused.ensures))
-
-pub bounds-out-2 : goal.bounds-out-2
-bounds-out-2 c = simp length-set (omega (arith, room _ _ _ _ _ c.in_ok-response_refused.ensures))
-
-pub bounds-out-3 : goal.bounds-out-3
-bounds-out-3 c = simp length-set (omega (arith, room _ _ _ _ _ c.in_ok-response_refused.ensures))
+pub split_at_mut-head-requires : goal.split_at_mut-head-requires
+split_at_mut-head-requires c = omega (arith, room _ _ _ _ _ c.in_ok-response_refused.ensures)
 
 pub put_responses-requires : goal.put_responses-requires
 put_responses-requires c =
-    ((known _ _ _ _ _ c.in_ok-response_refused.ensures).formed, (known _ _ _ _ _ c.in_ok-response_refused.ensures).count, simp length-set (omega (arith, room _ _ _ _ _ c.in_ok-response_refused.ensures)))
+    let passed = c.in_ok-response_refused.ensures in
+    let fits = known _ _ _ _ _ passed in
+    (fits.formed, fits.count, omega (arith, room _ _ _ _ _ passed, c.split_at_mut-head.ensures.back_len))
 
-pub shape_of-out : goal.shape_of-out
-shape_of-out c = c.put_responses.auto.out ∙ simp length-set
-
-pub returns : goal.returns
+pub returns-clause-bytes : goal.returns-clause-bytes
 unfolding response_bytes
-returns c =
-    let a = c.args in
-    let m = a.run.b in
-    let number : ℕ → ℕ = λ u. (response_for a.run a.j a.key a.shares.now (u + 1)).0 in record {
-      number = c.in_ok-response_refused.ensures;
-      bytes = c.put_responses.ensures ∙ sets_whole a.out.now (letter_r ∷ letter_e ∷ a.j ∷ 0 ∷ []) (fours m number) (omega (arith, room _ _ _ _ _ c.in_ok-response_refused.ensures, length_fours m number));
-    }
+returns-clause-bytes c = rw (c.copy_from_slice.ensures.after, c.put_responses.ensures)

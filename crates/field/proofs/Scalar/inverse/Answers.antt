@@ -1,7 +1,7 @@
 -- `Scalar::inverse` meets its contract. The loop keeps factor times the inverse of what is left, modulo q. Assumes nothing.
 use borrow.Author.Rules.{rules}
 use native.Mathlib.Omega.{arith}
-use native.Mathlib.Nat.{mod-lt, mod-eq_of_lt, one-mul, div-le_self, lt_trans}
+use native.Mathlib.Nat.{mod-lt, mod-eq_of_lt, one-mul, lt_trans}
 use mathlib.Core.Path.{◌∙◌, ap, sym}
 use Prim.Native.Nat.{ℕ, ◌*◌, ◌%◌, ◌-◌, ◌/◌, ◌<◌}
 use Rattle.field.specs.declared.Scalar.{Scalar}
@@ -16,13 +16,6 @@ loop-left-init c =
     let x = c.before.args.self.0 in
     let l : x % q < q = mod-lt x (search rules) in
     (l, l, same q (one-mul _) ∙ mod-eq_of_lt (inverse_lt (x % q) l))
-
-pub overflow_sub-minus_quotient : goal.overflow_sub-minus_quotient
-unfolding q
-overflow_sub-minus_quotient c = omega (arith, div-le_self q c.before.loop-left.left)
-
-pub loop-left-smaller : goal.loop-left-smaller
-loop-left-smaller c = let p : 0 < c.before.before.loop-left.left = omega arith in mod-lt _ p
 
 pub loop-left-preserved : goal.loop-left-preserved
 unfolding q times

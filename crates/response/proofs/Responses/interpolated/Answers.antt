@@ -11,9 +11,8 @@ use Rattle.response.proofs.Responses.interpolated.Goals as goal
 pub returns : goal.returns
 unfolding phi_of
 returns c =
-    let weights = c.before.before in
-    let start = weights.before.before.before in
-    let at : weights.point.result ≡ slot start.args.k = weights.point.ensures ∙ sym (slot_is start.args.k) in
+    let p = c.args.self.now in
+    let at : c.point.result ≡ slot c.args.k = c.point.ensures ∙ sym (slot_is c.args.k) in
     c.sum.ensures
-    ∙ rw (c.member_numbers.ensures, weights.weights.ensures, start.requires, weights_by_is, at)
-    (members_interpolated start.args.n start.args.self.responders start.args.self.numbers start.args.u (slot start.args.k) (omega arith))
+    ∙ rw (c.member_numbers.ensures, c.weights.ensures, c.requires, weights_by_is, at)
+    (members_interpolated c.args.n p.responders p.numbers c.args.u (slot c.args.k) (omega arith))

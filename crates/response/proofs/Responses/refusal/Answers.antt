@@ -10,5 +10,5 @@ pub returns-in_err-untested : goal.returns-in_err-untested
 unfolding response_number require or_next
 returns-in_err-untested c =
     let a = c.args in
-    let found : number c.in_err-untested.field-0.0 ≡ untested a.setup.n a.b a.self.responders a.complaints.holders a.bytes.now 0 = c.in_err-untested.ensures in
+    let found : number c.in_err-untested.field-0.0 ≡ untested a.kept.now.setup.now.n a.b a.self.now.responders a.kept.now.complaints.now.holders a.bytes.now 0 = c.in_err-untested.ensures in
     search (rules, number_some, found)

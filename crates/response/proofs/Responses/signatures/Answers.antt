@@ -16,13 +16,14 @@ fits : {n t a b : ℕ} → Bounds n t a → b ≤ n → (list : List Scalar) →
 fits h l list e = omega (arith, e, cells_max h l)
 
 pub slice_bounds-signatures-end : goal.slice_bounds-signatures-end
-slice_bounds-signatures-end c = fits (bounds_of _ _ _ c.requires.0) c.requires.1 c.args.list (search rules)
+slice_bounds-signatures-end c = fits (bounds_of _ _ _ c.args.kept.now.within) c.requires c.args.list (search rules)
 
 pub slice_bounds-signature-items-end : goal.slice_bounds-signature-items-end
 slice_bounds-signature-items-end c =
     let a = c.args in
-    let within : a.setup.a * a.b ≤ length a.list = fits (bounds_of _ _ _ c.requires.0) c.requires.1 a.list (search rules) in
-    omega (arith, within, length-take (a.setup.a * a.b) a.list)
+    let m = a.kept.now.setup.now.a * a.b in
+    let within : m ≤ length a.list = fits (bounds_of _ _ _ a.kept.now.within) c.requires a.list (search rules) in
+    omega (arith, within, length-take m a.list)
 
 pub loop-x-init : goal.loop-x-init
 unfolding stored
@@ -33,15 +34,18 @@ unfolding shifted_phi_of
 loop-x-preserved c =
     let l = c.loop-x in
     let a = c.args in
-    let list : List Scalar = take (a.setup.a * a.b) a.list in
-    load_in list 0 l.x (cell a.setup a.shift a.self) l.invariant (sym (zero-add l.x)) (c.add.ensures ∙ ap (λ (x : Scalar). plus x a.shift) c.interpolated-phi.ensures) refl
+    let setup = a.kept.now.setup.now in
+    let shift = a.kept.now.challenges.now.shift in
+    load_in (take (setup.a * a.b) a.list) 0 l.x (cell setup shift a.self.now) l.invariant (sym (zero-add l.x))
+    (c.add.ensures ∙ ap (λ (x : Scalar). plus x shift) c.interpolated-phi.ensures) refl
 
 pub returns : goal.returns
 unfolding signatures_of
 returns c =
     let a = c.args in
-    let m : ℕ = a.setup.a * a.b in
-    let f : ℕ → Scalar = cell a.setup a.shift a.self in
-    let within : m ≤ length a.list = fits (bounds_of _ _ _ c.requires.0) c.requires.1 a.list (search rules) in
+    let setup = a.kept.now.setup.now in
+    let m : ℕ = setup.a * a.b in
+    let f : ℕ → Scalar = cell setup a.kept.now.challenges.now.shift a.self.now in
+    let within : m ≤ length a.list = fits (bounds_of _ _ _ a.kept.now.within) c.requires a.list (search rules) in
     let end : c.loop-x.x ≡ m = omega (arith, within, length-take m a.list) in
     ap (λ (s : List Scalar). s ++ drop m a.list) (loaded (take m a.list) 0 c.loop-x.x f c.loop-x.invariant end) ∙ stored_front a.list m m f within (omega arith)

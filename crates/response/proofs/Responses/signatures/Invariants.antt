@@ -12,4 +12,4 @@ abbrev pub cell : Setup → Scalar → Responses → ℕ → Scalar
 cell setup shift p x = shifted_phi_of setup.n shift p (x / setup.a + 1) (x % setup.a + 1)
 
 abbrev pub invariant-loop-x : goal.invariant-loop-x
-invariant-loop-x l = l.signature-items ≡ stored l.initial.signature-items 0 l.x (cell l.setup l.shift l.self)
+invariant-loop-x l = l.signature-items ≡ stored l.initial.signature-items 0 l.x (cell l.kept.setup.now l.shift l.self)

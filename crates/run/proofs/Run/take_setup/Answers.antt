@@ -1,9 +1,8 @@
 -- `Run::take_setup` meets its contract. Assumes nothing.
-use Rattle.std.proofs.Common.{◌≡◌, true, false, ◌-◌, ap, ap₂, sym, ◌∙◌, arith}
-use Rattle.parameters.specs.Definitions.{batch}
+use Rattle.std.specs.Prelude.{◌≡◌, true}
+use Rattle.std.proofs.Common.{sym, ap, ◌∙◌, arith}
 use Rattle.refusals.specs.Refusals.{setup_refusal}
 use Rattle.refusals.proofs.RefusalLaws.{setup_passed}
-use Rattle.dealing.specs.declared.Setup.{Setup}
 use Rattle.dealing.specs.Definitions.{setup_of, begun_batch}
 use Rattle.run.specs.Runs.{begun}
 use Rattle.run.specs.Steps.{after_setup}
@@ -24,11 +23,3 @@ unfolding setup_of
 overflow_sub-setup c =
     let bounds = (setup_passed c.args.bytes.now (sym c.in_ok-setup_refusal.ensures)).bounds in
     rw c.read-setup.ensures (omega (arith, bounds.enough))
-
-pub returns : goal.returns
-unfolding after_setup begun_batch
-returns c =
-    let fixed : c.args.waits ≡ false = c.if-waits.false in
-    let passed : 0 ≡ setup_refusal c.args.bytes.now = c.in_ok-setup_refusal.ensures in
-    rw fixed (accepted_by c.args.self passed
-    (c.begun-2.ensures ∙ ap₂ (begun 1) (c.batch-b.ensures ∙ ap (λ (x : Setup). batch (x.n - x.t) x.t) c.read-setup.ensures) c.read-setup.ensures))

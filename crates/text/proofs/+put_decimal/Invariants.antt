@@ -1,5 +1,0 @@
--- `put_decimal` calls itself on a smaller number. Assumes nothing.
-use Rattle.text.proofs.+put_decimal.Given as goal
-
-abbrev pub decreases-put_decimal : goal.decreases-put_decimal
-decreases-put_decimal l = l.n
