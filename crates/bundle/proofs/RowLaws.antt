@@ -86,6 +86,58 @@ module _ {r next : Run} (k : Kept r next) (s : List ℕ) where
             late = stage_least 4 z (omega arith) (omega arith) l;
           }
 
+-- ---- what refuses a row without a test of its numbers
+
+module _ (r : Run) (s : List ℕ) where
+  -- by its tag
+  pub by_unknown : code (tag_of s) ≡ 0 → untaken r s ≡ 1
+  unfolding untaken handler_at untaken_by
+  by_unknown = go (tag_of s)
+    where
+      go : (g : Tag) → code g ≡ 0 → untaken_by (handler_at g (stage_of r)) r s ≡ 1
+      go SU e = absurd (omega (arith, e))
+      go SX e = absurd (omega (arith, e))
+      go DE e = absurd (omega (arith, e))
+      go GO e = absurd (omega (arith, e))
+      go VE e = absurd (omega (arith, e))
+      go CH e = absurd (omega (arith, e))
+      go CS e = absurd (omega (arith, e))
+      go RE e = absurd (omega (arith, e))
+      go unknown e = refl
+
+  -- at another stage than the one that takes a tag
+  elsewhere : (g : Tag) (h : Handler) → (stage_of r ≡ taken_at g → ⊥) → untaken_by (at_stage g (stage_of r) h) r s ≡ 11
+  unfolding untaken_by
+  elsewhere g h n = ap (λ (x : Handler). untaken_by x r s) (off_stage g r h n)
+
+  pub by_other : 4 ≤ stage_of r → (code (tag_of s) ≡ 0 → ⊥) → (code (tag_of s) ≡ 5 → ⊥) → untaken r s ≡ 11
+  unfolding untaken handler_at taken_at
+  by_other l = go (tag_of s)
+    where
+      go : (g : Tag) → (code g ≡ 0 → ⊥) → (code g ≡ 5 → ⊥) → untaken_by (handler_at g (stage_of r)) r s ≡ 11
+      go SU n m = elsewhere SU TakeSetup (λ z. omega arith)
+      go SX n m = elsewhere SX TakeWaiting (λ z. omega arith)
+      go DE n m = elsewhere DE TakeDealing (λ z. omega arith)
+      go GO n m = elsewhere GO TakeGo (λ z. omega arith)
+      go VE n m = elsewhere VE TakeComplaint (λ z. omega arith)
+      go CH n m = elsewhere CH TakeChallenges (λ z. omega arith)
+      go CS n m = elsewhere CS TakeShifted (λ z. omega arith)
+      go RE n m = absurd (m refl)
+      go unknown n m = absurd (n refl)
+
+  -- an RE by the stage
+  row_tag : code (tag_of s) ≡ 5 → tag_of s ≡ RE
+  row_tag = row_code (tag_of s)
+
+  pub by_stage : code (tag_of s) ≡ 5 → (stage_of r ≡ 4 → ⊥) → untaken r s ≡ 11
+  unfolding untaken handler_at taken_at
+  by_stage e n = ap (λ (g : Tag). untaken_by (handler_at g (stage_of r)) r s) (row_tag e) ∙ elsewhere RE TakeResponse n
+
+  -- and at stage 4 by what it holds
+  pub by_row : code (tag_of s) ≡ 5 → stage_of r ≡ 4 → untaken r s ≡ untaken_by TakeResponse r s
+  unfolding untaken handler_at taken_at
+  by_row e z = ap (λ (g : Tag). untaken_by (handler_at g (stage_of r)) r s) (row_tag e) ∙ ap (λ (h : Handler). untaken_by h r s) (at_stage_is RE r TakeResponse z)
+
 -- ---- a row that nothing refuses but its numbers
 
 -- its numbers pass
@@ -99,8 +151,7 @@ same_test k s = rw (k.b_same, k.setup_same, k.dealings_same, k.complaints_same, 
 module _ (r : Run) (s : List ℕ) (l : 4 ≤ stage_of r) where
   -- a tag that another stage takes is refused
   eleven : (g : Tag) (h : Handler) → (stage_of r ≡ taken_at g → ⊥) → untaken_by (at_stage g (stage_of r) h) r s ≡ 0 → ⊥
-  unfolding untaken_by
-  eleven g h n e = absurd (omega (arith, ap (λ (x : Handler). untaken_by x r s) (off_stage g r h n), e))
+  eleven g h n e = absurd (omega (arith, elsewhere r s g h n, e))
 
   -- so is every earlier one
   early : (g : Tag) (h : Handler) → taken_at g < 4 → untaken_by (at_stage g (stage_of r) h) r s ≡ 0 → ⊥

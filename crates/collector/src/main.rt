@@ -2,18 +2,27 @@
 // and the lent list in hex; last what the run has come to. docs/FORMATS.md says what the input is.
 #![tactic(auto)]
 
-ghost use Rattle.std.specs.Prelude.{◌<◌, ◌≤◌, length, IfSome};
+ghost use Rattle.std.specs.Prelude.{◌≡◌, ◌<◌, ◌≤◌, length, replicate, IfSome};
+ghost use Rattle.bundle.specs.Bundles.{bundled};
 
 use run::Run;
 use std::io::Print;
 use streams::COUNT;
 
-// Gives a bundle to a run and prints the answer.
-fn serve(rt: &impl Print, run: Run, rows: &[u8], list: &mut [u8]) -> Run {
+// Gives a bundle to the run and prints the answer: a list filled with the byte a5 is lent. A refusal leaves the run as it was.
+fn serve(rt: &impl Print, run: &mut Run, rows: &[u8], list: &mut [u8])
+    ensures run { run.new ≡ (bundled run.old rows.now (replicate (length list.old) 165)).run }
+    ensures list { list.new ≡ (bundled run.old rows.now (replicate (length list.old) 165)).list }
+{
     streams::fill(list);
-    let reply = bundle::take_rows(run, rows, list);
-    streams::answer(rt, refusals::number_of(&reply), list);
-    reply.unwrap_or(run)
+    let number = match bundle::take_rows(*run, rows, list) {
+        Ok(next) => {
+            *run = next;
+            0
+        }
+        Err(refusal) => refusal.number(),
+    };
+    streams::answer(rt, number, list);
 }
 
 // Every φ(u,k) for a u, where the run has it.
@@ -57,7 +66,7 @@ fn serve_all(rt: &impl Print, start: Run, s: &[u8], list: &mut [u8; LIST]) {
             streams::answer_broken(rt);
             return;
         };
-        run = serve(rt, run, rows, &mut list[..places]);
+        serve(rt, &mut run, rows, &mut list[..places]);
         rest = next;
     }
     print_run(rt, run);

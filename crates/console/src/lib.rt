@@ -34,16 +34,26 @@ pub fn input_ended<R: Read>(input: &mut R) -> bool
     matches!(input.read(&mut more), Ok(0))
 }
 
-// Reads the whole input, or as much of it as fills the buffer; none where a read failed.
-pub fn read_input<'a, R: Read>(input: &mut R, buf: &'a mut [u8]) -> Option<&'a [u8]>
-    ensures in_bounds { IfSome result (λ s. length s.now ≤ length buf.old) }
-    ensures bytes { IfSome result (λ s. Consumes (R.remaining input.old) (R.remaining input.new) s.now) }
-    ensures whole { IfSome result (λ s. length s.now < length buf.old → IsAtEnd (R.remaining input.new)) }
+// Reads the whole input, or as much of it as fills the buffer, and returns how many bytes that is; none where a read failed.
+pub fn read_input<R: Read>(input: &mut R, buf: &mut [u8]) -> Option<usize>
+    ensures in_bounds { IfSome result (λ n. n ≤ length buf.new) }
+    ensures bytes { IfSome result (λ n. Consumes (R.remaining input.old) (R.remaining input.new) (take n buf.new)) }
+    ensures whole { IfSome result (λ n. n < length buf.new → IsAtEnd (R.remaining input.new)) }
 {
     let got = read_full(input, buf);
     if got < buf.len() && !input_ended(input) {
         return None;
     }
+    Some(got)
+}
+
+// The same, with the bytes that were read in the place of their number. Whoever asks for the buffer itself afterwards takes `read_input`.
+pub fn read_slice<'a, R: Read>(input: &mut R, buf: &'a mut [u8]) -> Option<&'a [u8]>
+    ensures in_bounds { IfSome result (λ s. length s.now ≤ length buf.old) }
+    ensures bytes { IfSome result (λ s. Consumes (R.remaining input.old) (R.remaining input.new) s.now) }
+    ensures whole { IfSome result (λ s. length s.now < length buf.old → IsAtEnd (R.remaining input.new)) }
+{
+    let got = read_input(input, buf)?;
     Some(&buf[..got])
 }
 
@@ -61,7 +71,7 @@ fn read_shorter<'a, R: Read>(input: &mut R, buf: &'a mut [u8]) -> Result<&'a [u8
     ensures whole { IfOk result (λ s. IsAtEnd (R.remaining input.new)) }
 {
     let room = buf.len();
-    let read = read_input(input, buf).ok_or(Untaken::Unread)?;
+    let read = read_slice(input, buf).ok_or(Untaken::Unread)?;
     let long = read.len() == room;
     if long {
         return Err(Untaken::Long);
@@ -84,7 +94,9 @@ pub fn serve_input<R: Read, F: FnOnce(&[u8])>(
     match read_shorter(input, buf) {
         Ok(read) => serve(read),
         Err(Untaken::Long) => print_bytes(rt, b"long\n"),
-        Err(Untaken::Unread) => say(rt, program, format_args!("the {what} could not be read")),
+        Err(Untaken::Unread) => {
+            print_error(rt, program, format_args!("the {what} could not be read"))
+        }
     }
 }
 
@@ -117,7 +129,7 @@ fn make_page<'a, R: Read, F: FnOnce(&[u8], &mut [u8]) -> Option<usize>>(
     ensures some { IfOk result (λ s. 0 < length s.now) }
     ensures made { IfOk result (λ s. (l : _) × (p : _) × (n : _) × (q : _) × F.post report l p (Some n) q × Consumes (R.remaining input.old) (R.remaining input.new) l.now × (p.now ≡ page.old) × (s.now ≡ take n q.now)) }
 {
-    let log = read_input(input, log).ok_or(Unmade::Unread)?;
+    let log = read_slice(input, log).ok_or(Unmade::Unread)?;
     let size = report(log, page).ok_or(Unmade::Empty)?;
     page.get(..size)
         .filter(|made| !made.is_empty())
@@ -139,7 +151,7 @@ pub fn print_page<R: Read, F: FnOnce(&[u8], &mut [u8]) -> Option<usize>>(
         .write_all(made)
         .or(Err(Unmade::Cut)));
     if let Err(unmade) = printed {
-        say(rt, program, unmade);
+        print_error(rt, program, unmade);
     }
 }
 
@@ -174,7 +186,15 @@ pub fn end_line(rt: &impl Print) {
     print_bytes(rt, b"\n");
 }
 
-// What a program could not do, on standard error, after its name.
-pub fn say<D: fmt::Display + Drop>(rt: &impl Eprint, program: &str, what: D) {
+// What a program could not do, after its name, onto any output.
+pub fn say(error: &impl Print, program: &[u8], what: &[u8]) {
+    print_bytes(error, program);
+    print_bytes(error, b": ");
+    print_bytes(error, what);
+    print_bytes(error, b"\n");
+}
+
+// The same in one format, on standard error.
+pub fn print_error<D: fmt::Display + Drop>(rt: &impl Eprint, program: &str, what: D) {
     let _ = eprintln!(rt; "{program}: {what}");
 }

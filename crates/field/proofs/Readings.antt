@@ -47,6 +47,11 @@ one_read : read_element 1 ≡ Identity
 unfolding reading_of read_element power_of power_to P q
 one_read = refl
 
+-- its test, which needs no power
+pub one_raised : (x : ℕ) → x ≡ 1 → power_of P x q ≡ 1
+unfolding power_of power_to P q
+one_raised x e = ap (λ (v : ℕ). power_of P v q) e
+
 one_alone : (a b : Bool) → reading_of a b ≡ Identity → b ≡ true
 unfolding reading_of
 one_alone true true e = refl

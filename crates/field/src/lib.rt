@@ -177,14 +177,14 @@ impl Element {
         Element::GENERATOR
     }
 
-    // What a number is as it stands: by its order, and not by range alone.
-    #[tactic(auto, unfolding(crate::specs::Definitions::read_element, crate::specs::Definitions::P, crate::specs::Definitions::q))]
+    // What a number is as it stands: by its order, and not by range alone. Of 1 no power is needed.
+    #[tactic(auto, using(crate::proofs::Readings::one_raised), unfolding(crate::specs::Definitions::read_element, crate::specs::Definitions::P, crate::specs::Definitions::q))]
     pub fn read(x: u32) -> Reading
         ensures { result ≡ read_element x }
     {
         let of_group = 0 < x
             && x < Element::MODULUS
-            && power_of(Element::MODULUS, x, Scalar::MODULUS) == 1;
+            && (x == 1 || power_of(Element::MODULUS, x, Scalar::MODULUS) == 1);
         Reading::of(of_group, x == 1)
     }
 

@@ -151,7 +151,9 @@ pub fn give_record(run: &mut Run, bytes: &[u8]) -> u8
     ensures number { result ≡ (step_of run.old bytes.now).number }
 {
     let reply = run.step(bytes);
-    *run = reply.unwrap_or(*run);
+    if let Ok(next) = &reply {
+        *run = *next;
+    }
     refusals::number_of(&reply)
 }
 

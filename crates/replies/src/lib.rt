@@ -1,12 +1,17 @@
 // Records given to a run, and what the run answers, printed.
 #![tactic(auto)]
 
+ghost use Rattle.std.specs.Prelude.{◌≡◌};
+ghost use Rattle.run.specs.Steps.{step_of};
+
 use run::Run;
 use std::fmt;
 use std::io::Print;
 
-// Gives a record to a run and prints the number of the reply.
-pub fn give(rt: &impl Print, run: Run, bytes: &[u8]) -> Run {
+// Gives a record to a run and prints the number of the reply. A refusal leaves the run as it was.
+pub fn give(rt: &impl Print, run: Run, bytes: &[u8]) -> Run
+    ensures { result ≡ (step_of run bytes.now).run }
+{
     let reply = run.step(bytes);
     console::print_number(rt, refusals::number_of(&reply) as u64);
     reply.unwrap_or(run)

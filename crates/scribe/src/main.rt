@@ -129,6 +129,32 @@ fn answer_fields(
     Some(())
 }
 
+// Answers a request of a kind without a log. The run is a variable of this function alone, which sets it to 0 where it begins: a request of no kind does not
+// pay for it.
+#[inline(never)]
+fn answer_fresh(
+    rt: &impl Print,
+    kind: Kind,
+    fields: &[u8],
+    list: &mut [u32; MOST],
+    buffer: &mut [u8; MOST],
+) -> Option<()> {
+    answer_fields(rt, kind, Run::fresh(), fields, list, buffer)
+}
+
+// Answers a request of a kind with a log, likewise.
+#[inline(never)]
+fn answer_logged(
+    rt: &impl Print,
+    kind: Kind,
+    rest: &[u8],
+    list: &mut [u32; MOST],
+    buffer: &mut [u8; MOST],
+) -> Option<()> {
+    let (log, fields) = streams::split_log(rest)?;
+    answer_fields(rt, kind, streams::run_of(log), fields, list, buffer)
+}
+
 // Answers a request, or none that is broken.
 fn answer(
     rt: &impl Print,
@@ -138,11 +164,11 @@ fn answer(
 ) -> Option<()> {
     let (code, rest) = request.split_first()?;
     let kind = Kind::try_from(*code).ok()?;
-    if !kind.has_log() {
-        return answer_fields(rt, kind, Run::fresh(), rest, list, buffer);
+    if kind.has_log() {
+        answer_logged(rt, kind, rest, list, buffer)
+    } else {
+        answer_fresh(rt, kind, rest, list, buffer)
     }
-    let (log, fields) = streams::split_log(rest)?;
-    answer_fields(rt, kind, streams::run_of(log), fields, list, buffer)
 }
 
 // Answers every request of a stream, up to one that is cut.

@@ -1,7 +1,7 @@
 // Streams that programs read on standard input, the run of a log in one, and answers with a buffer in hex.
 #![tactic(auto)]
 
-ghost use Rattle.std.specs.Prelude.{◌≡◌, ◌↔◌, ◌+◌, ◌<◌, ◌≤◌, ◌++◌, length, take, IfSome, IsSome};
+ghost use Rattle.std.specs.Prelude.{◌≡◌, ◌↔◌, ◌+◌, ◌<◌, ◌≤◌, ◌++◌, length, take, replicate, IfSome, IsSome};
 ghost use Rattle.records.specs.Bytes.{number_at};
 ghost use Rattle.reader.specs.Cutting.{run_of};
 
@@ -33,7 +33,9 @@ pub fn four(s: &[u8], at: usize) -> u32
 // What a buffer is filled with before it is lent.
 const FILLER: u8 = 165;
 
-pub fn fill(out: &mut [u8]) {
+pub fn fill(out: &mut [u8])
+    ensures { out.new ≡ replicate (length out.old) 165 }
+{
     out.fill(FILLER);
 }
 
@@ -51,7 +53,8 @@ pub fn answer_broken(rt: &impl Print) {
     console::print_bytes(rt, b"broken\n");
 }
 
-// The run after a log.
+// The run after a log. Not compiled into its callers, whose other inputs need none of its variables.
+#[inline(never)]
 pub fn run_of(log: &[u8]) -> Run
     ensures { result ≡ run_of log.now }
 {
